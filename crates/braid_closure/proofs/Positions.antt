@@ -6,7 +6,7 @@ use Rattle.std.proofs.lemmas.List.{nil_from_length}
 use Rattle.std.proofs.lemmas.List.Elements.{filter-append, filter_more}
 use Rattle.braid_closure.specs.declared.columns.Column.{Column}
 use Rattle.braid_closure.specs.Columns.{begun, ended, is_open, open_columns, at_position}
-use Rattle.braid_closure.specs.Closure.{positive, negative}
+use Rattle.braid_closure.specs.Closure.{positive_columns, negative_columns}
 
 abbrev Change : Type 0
 Change = Column → List Column
@@ -165,13 +165,13 @@ second_split k r change columns pair =
 
 -- the columns after a letter
 pub positive_is : (k r : ℕ) (columns : List Column) (pair : Pair k columns)
-    → positive k r columns ≡ pair.left ++ begun r ∷ pair.first ∷ (pair.between ++ ended r pair.second ∷ pair.right)
+    → positive_columns k r columns ≡ pair.left ++ begun r ∷ pair.first ∷ (pair.between ++ ended r pair.second ∷ pair.right)
 positive_is k r columns pair =
     ap (at_position k (λ c. begun r ∷ c ∷ [])) (second_split k r (λ c. ended r c ∷ []) columns pair)
     ∙ at_split k (λ c. begun r ∷ c ∷ []) pair.left pair.first (pair.between ++ ended r pair.second ∷ pair.right) pair.first_open pair.before
 
 pub negative_is : (k r : ℕ) (columns : List Column) (pair : Pair k columns)
-    → negative k r columns ≡ pair.left ++ ended r pair.first ∷ (pair.between ++ pair.second ∷ begun r ∷ pair.right)
+    → negative_columns k r columns ≡ pair.left ++ ended r pair.first ∷ (pair.between ++ pair.second ∷ begun r ∷ pair.right)
 negative_is k r columns pair =
     ap (at_position k (λ c. ended r c ∷ [])) (second_split k r (λ c. c ∷ begun r ∷ []) columns pair)
     ∙ at_split k (λ c. ended r c ∷ []) pair.left pair.first (pair.between ++ pair.second ∷ begun r ∷ pair.right) pair.first_open pair.before

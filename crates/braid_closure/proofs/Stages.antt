@@ -14,7 +14,7 @@ use Rattle.grid_core.proofs.OneEach.{range_more, each_below}
 use Rattle.braid_core.specs.Braid.{IsLetter}
 use Rattle.braid_closure.specs.declared.columns.Column.{Column}
 use Rattle.braid_closure.specs.Columns.{begun, ended, is_open, open_columns}
-use Rattle.braid_closure.specs.Closure.{positive, negative, after_letter, after_letters, feet_columns}
+use Rattle.braid_closure.specs.Closure.{positive_columns, negative_columns, after_letter, after_letters, feet_columns}
 use Rattle.braid_closure.proofs.Positions.{Pair, pair_at, pair_open, positive_is, negative_is, open_append, open_here}
 
 -- the rows of the Xs, and those of the Os of the columns that have ended
@@ -177,7 +177,7 @@ stage_as m p q r s e f columns after same p_is r_is e_is stage =
     (subst (λ (z : ℕ). IsStage m p r z after) e_is (subst (λ (zs : List Column). IsStage m p r e zs) same stage)))
 
 stage_positive : (m r e k : ℕ) (columns : List Column) → r ≡ m + e → (pair : Pair k columns) → IsStage m m r e columns
-    → IsStage m m (r + 1) (e + 1) (positive k r columns)
+    → IsStage m m (r + 1) (e + 1) (positive_columns k r columns)
 stage_positive m r e k columns r_is pair stage =
     let some : 1 ≤ m =
     let known = ap length (pair_open k columns pair) ∙ length-append (open_columns pair.left) (pair.first ∷ pair.second ∷ open_columns pair.right) in
@@ -192,13 +192,13 @@ stage_positive m r e k columns r_is pair stage =
     (pair.left ++ (pair.first ∷ (pair.between ++ ended (m + e) pair.second ∷ pair.right)))
     (append_assoc pair.left (pair.first ∷ pair.between) (ended (m + e) pair.second ∷ pair.right)) refl refl refl less in
     stage_as m (m - 1 + 1) m (r + 1) (r + 1) (e + 1) (e + 1) (pair.left ++ begun r ∷ (pair.first ∷ (pair.between ++ ended (m + e) pair.second ∷ pair.right)))
-    (positive k r columns)
+    (positive_columns k r columns)
     (ap (λ (z : ℕ). pair.left ++ begun r ∷ (pair.first ∷ (pair.between ++ ended z pair.second ∷ pair.right))) (sym r_is)
     ∙ sym (positive_is k r columns pair)) (omega arith) refl refl
     (stage_begin m (m - 1) r (e + 1) pair.left (pair.first ∷ (pair.between ++ ended (m + e) pair.second ∷ pair.right)) again)
 
 stage_negative : (m r e k : ℕ) (columns : List Column) → r ≡ m + e → (pair : Pair k columns) → IsStage m m r e columns
-    → IsStage m m (r + 1) (e + 1) (negative k r columns)
+    → IsStage m m (r + 1) (e + 1) (negative_columns k r columns)
 stage_negative m r e k columns r_is pair stage =
     let some : 1 ≤ m =
     let known = ap length (pair_open k columns pair) ∙ length-append (open_columns pair.left) (pair.first ∷ pair.second ∷ open_columns pair.right) in
@@ -213,7 +213,7 @@ stage_negative m r e k columns r_is pair stage =
     let again =
     stage_as m (m - 1) (m - 1) r r (e + 1) (e + 1) (pair.left ++ ended (m + e) pair.first ∷ (pair.between ++ pair.second ∷ pair.right)) (front ++ pair.right)
     (sym (apart pair.right)) refl refl refl less in
-    stage_as m (m - 1 + 1) m (r + 1) (r + 1) (e + 1) (e + 1) (front ++ begun r ∷ pair.right) (negative k r columns)
+    stage_as m (m - 1 + 1) m (r + 1) (r + 1) (e + 1) (e + 1) (front ++ begun r ∷ pair.right) (negative_columns k r columns)
     (apart (begun r ∷ pair.right)
     ∙ (ap (λ (z : ℕ). pair.left ++ ended z pair.first ∷ (pair.between ++ pair.second ∷ begun r ∷ pair.right)) (sym r_is)
     ∙ sym (negative_is k r columns pair))) (omega arith) refl refl

@@ -10,16 +10,16 @@ use Rattle.braid_closure.specs.declared.columns.Column.{Column}
 use Rattle.braid_closure.specs.Columns.{begun, ended, at_position, diagram_of}
 
 -- letter +k in row r: the column of position k+1 ends, and a new one begins directly to the left of the column of position k
-abbrev pub positive : ℕ → ℕ → List Column → List Column
-positive k r columns = at_position k (λ c. begun r ∷ c ∷ []) (at_position (k + 1) (λ c. ended r c ∷ []) columns)
+abbrev pub positive_columns : ℕ → ℕ → List Column → List Column
+positive_columns k r columns = at_position k (λ c. begun r ∷ c ∷ []) (at_position (k + 1) (λ c. ended r c ∷ []) columns)
 
 -- letter -k in row r: the column of position k ends, and a new one begins directly to the right of the column of position k+1
-abbrev pub negative : ℕ → ℕ → List Column → List Column
-negative k r columns = at_position k (λ c. ended r c ∷ []) (at_position (k + 1) (λ c. c ∷ begun r ∷ []) columns)
+abbrev pub negative_columns : ℕ → ℕ → List Column → List Column
+negative_columns k r columns = at_position k (λ c. ended r c ∷ []) (at_position (k + 1) (λ c. c ∷ begun r ∷ []) columns)
 
 abbrev pub after_letter : ℤ → ℕ → List Column → List Column
-after_letter (pos k) r columns = positive k r columns
-after_letter (negsuc n) r columns = negative (n + 1) r columns
+after_letter (pos k) r columns = positive_columns k r columns
+after_letter (negsuc n) r columns = negative_columns (n + 1) r columns
 
 -- the sign of the crossing of a letter: 1 for +k, and -1 for -k
 abbrev pub letter_sign : ℤ → ℤ
@@ -64,9 +64,9 @@ abbrev pub feet : Word → List ℕ
 feet b = map (column_of Cross (closure b)) (range_with_len 0 b.strands)
 
 -- the colours at the feet, position 1 first
-abbrev pub at_feet : Word → List ℕ → List ℕ
-at_feet b colours = map (slice_index colours) (feet b)
+abbrev pub at_closure_feet : Word → List ℕ → List ℕ
+at_closure_feet b colours = map (slice_index colours) (feet b)
 
 -- the colour of a column of the closure that is known by the row of its X
-abbrev pub colour_of : Word → List ℕ → Column → ℕ
-colour_of b colours c = slice_index colours (column_of Cross (closure b) c.x)
+abbrev pub colour_of_column : Word → List ℕ → Column → ℕ
+colour_of_column b colours c = slice_index colours (column_of Cross (closure b) c.x)

@@ -25,7 +25,7 @@ at_position k change (c ∷ columns) =
     else c ∷ at_position k change columns
 
 -- the open column of position k stands at this place of the list; only private clauses cite this
-pub record StandsAt (k place : ℕ) (columns : List Column) (d : Column) : Type 0 where
+pub record ColumnStandsAt (k place : ℕ) (columns : List Column) (d : Column) : Type 0 where
   pub inside : place < length columns
   pub stands_open : is_open (slice_index_or columns place d) ≡ true
   pub before : length (open_columns (take place columns)) + 1 ≡ k

@@ -1,6 +1,6 @@
 //! The columns of a grid in the making, from left to right.
 ghost use Rattle.std.specs.Prelude.{◌≡◌, ◌<◌, ◌≤◌, ◌+◌, [], ◌∷◌, length};
-ghost use Rattle.braid_closure.specs.Columns.{begun, ended, open_columns, at_position, StandsAt};
+ghost use Rattle.braid_closure.specs.Columns.{begun, ended, open_columns, at_position, ColumnStandsAt};
 
 use arrayvec::ArrayVec;
 use grid_core::MAX_SIZE;
@@ -60,7 +60,7 @@ pub(crate) fn begin_right(columns: &mut Columns, position: u8, row: u8)
 fn place_of(columns: &[Column], position: u8) -> usize
     requires { (1 ≤ position) × (position ≤ length (open_columns columns.now)) }
     ensures inside { result < length columns.now }
-    ensures stands { (d : Column) → StandsAt position result columns.now d }
+    ensures stands { (d : Column) → ColumnStandsAt position result columns.now d }
 {
     let mut left = position;
     for place in 0..columns.len() {

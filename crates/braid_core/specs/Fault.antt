@@ -9,12 +9,12 @@ use Rattle.braid_core.specs.declared.fault.BraidFault.{BraidFault}
 use Rattle.braid_core.specs.declared.fault.BraidFault.TheVariants.{Strands, Letter, Size}
 
 -- 0, or of an absolute value that is not below the number of strands
-abbrev pub is_outside : ℕ → ℤ → Bool
-is_outside m a = not (nat_le 1 (unsigned_abs a) && nat_lt (unsigned_abs a) m)
+abbrev pub is_outside_strands : ℕ → ℤ → Bool
+is_outside_strands m a = not (nat_le 1 (unsigned_abs a) && nat_lt (unsigned_abs a) m)
 
 -- strands, the first bad letter, size, in this order
-abbrev pub first_fault : Word → Option BraidFault
-first_fault b =
+abbrev pub first_word_fault : Word → Option BraidFault
+first_word_fault b =
     if not (nat_le 1 b.strands && nat_le b.strands MAX_STRANDS) then Some Strands
-    else or_next (position (is_outside b.strands) b.letters) (λ place. Letter place)
+    else or_next (position (is_outside_strands b.strands) b.letters) (λ place. Letter place)
     (if nat_lt MAX_SIZE (length b.letters + 2 * b.strands) then Some Size else None)

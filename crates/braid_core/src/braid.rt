@@ -1,7 +1,7 @@
 //! A braid: its strands and its letters.
 ghost use Rattle.std.specs.Prelude.{◌≡◌, ◌≤◌, ◌⊎◌, None, Some, length, IfOk, IfErr, IsOk};
 ghost use Rattle.braid_core.specs.Braid.{IsBraid};
-ghost use Rattle.braid_core.specs.Fault.{first_fault};
+ghost use Rattle.braid_core.specs.Fault.{first_word_fault};
 ghost use Rattle.braid_core.specs.declared.fault.BraidFault.TheVariants as fault;
 
 use crate::fault::{BraidFault, first_outside};
@@ -42,10 +42,10 @@ impl Braid {
     ///
     /// Takes memory for more than `INLINE_LETTERS` letters only, once nothing else can be refused.
     pub fn new(alloc: Global, strands: u8, letters: &[i8]) -> Result<Braid, BraidFault>
-        ensures braid { IfOk result (λ b. (first_fault b ≡ None) × (b ≡ record { strands = strands; letters = letters.now })) }
-        ensures fault { IfErr result (λ e. (first_fault (record { strands = strands; letters = letters.now }) ≡ Some e)
-            ⊎ (first_fault (record { strands = strands; letters = letters.now }) ≡ None) × (e ≡ fault.OutOfMemory)) }
-        ensures inline { first_fault (record { strands = strands; letters = letters.now }) ≡ None → length letters.now ≤ INLINE_LETTERS → IsOk result }
+        ensures braid { IfOk result (λ b. (first_word_fault b ≡ None) × (b ≡ record { strands = strands; letters = letters.now })) }
+        ensures fault { IfErr result (λ e. (first_word_fault (record { strands = strands; letters = letters.now }) ≡ Some e)
+            ⊎ (first_word_fault (record { strands = strands; letters = letters.now }) ≡ None) × (e ≡ fault.OutOfMemory)) }
+        ensures inline { first_word_fault (record { strands = strands; letters = letters.now }) ≡ None → length letters.now ≤ INLINE_LETTERS → IsOk result }
     {
         if strands < 1 || strands as usize > MAX_STRANDS {
             return Err(BraidFault::Strands);

@@ -1,7 +1,7 @@
 //! Why a number of strands and a list of letters are no braid.
 ghost use Rattle.std.specs.Prelude.{◌≡◌};
 ghost use Rattle.std.specs.List.{position};
-ghost use Rattle.braid_core.specs.Fault.{is_outside};
+ghost use Rattle.braid_core.specs.Fault.{is_outside_strands};
 
 use std::alloc::AllocError;
 
@@ -30,7 +30,7 @@ impl From<AllocError> for BraidFault {
 
 /// The place of the first letter that is 0 or whose absolute value is not below the number of strands.
 pub(crate) fn first_outside(strands: u8, letters: &[i8]) -> Option<usize>
-    ensures { result ≡ position (is_outside strands) letters.now }
+    ensures { result ≡ position (is_outside_strands strands) letters.now }
 {
     letters
         .iter()
@@ -39,7 +39,7 @@ pub(crate) fn first_outside(strands: u8, letters: &[i8]) -> Option<usize>
 
 /// Whether a letter is 0 or its absolute value is not below the number of strands.
 fn is_outside(strands: u8, letter: i8) -> bool
-    ensures { result ≡ is_outside strands letter }
+    ensures { result ≡ is_outside_strands strands letter }
 {
     !(1 <= letter.unsigned_abs() && letter.unsigned_abs() < strands)
 }

@@ -14,7 +14,7 @@ use Rattle.braid_core.specs.Braid.{Word, IsBraid}
 use Rattle.braid_core.specs.Action.{action}
 use Rattle.braid_core.specs.FixedPoints.{IsFixedPoint}
 use Rattle.braid_closure.specs.declared.columns.Column.{Column}
-use Rattle.braid_closure.specs.Closure.{feet_columns, top_row, closing, closure_size, columns, closure, at_feet}
+use Rattle.braid_closure.specs.Closure.{feet_columns, top_row, closing, closure_size, columns, closure, at_closure_feet}
 use Rattle.braid_closure.proofs.Stages.{x_rows, x_below, first_stage}
 use Rattle.braid_closure.proofs.Grids.{closure_grid, size_closure}
 use Rattle.braid_laws.proofs.Walked.{colours_of}
@@ -48,7 +48,8 @@ map_range_at f g m i lt e =
 
 -- two colourings that agree at the feet are one
 rows_agree : (t : Table) → IsQuandle t → (b : Word) → IsBraid b → (colours others : List ℕ) → IsColouring t (closure b) colours
-    → IsColouring t (closure b) others → at_feet b colours ≡ at_feet b others → (x : ℕ) → x < closure_size b → colour_by b colours x ≡ colour_by b others x
+    → IsColouring t (closure b) others → at_closure_feet b colours ≡ at_closure_feet b others → (x : ℕ) → x < closure_size b
+    → colour_by b colours x ≡ colour_by b others x
 rows_agree t q b braid colours others one two same x lt =
     let colour = colour_by b colours in
     let other = colour_by b others in
@@ -77,7 +78,7 @@ rows_agree t q b braid colours others one two same x lt =
     ]
 
 pub feet_one : (t : Table) → IsQuandle t → (b : Word) → IsBraid b → (colours others : List ℕ) → IsColouring t (closure b) colours
-    → IsColouring t (closure b) others → at_feet b colours ≡ at_feet b others → colours ≡ others
+    → IsColouring t (closure b) others → at_closure_feet b colours ≡ at_closure_feet b others → colours ≡ others
 feet_one t q b braid colours others one two same =
     colours_back b braid colours one.colours_are.0
     ∙ (agree_columns (colour_by b colours) (colour_by b others) (closure_size b) (rows_agree t q b braid colours others one two same) (columns b)
@@ -188,7 +189,7 @@ tuple_closes t q b braid xs point r lt =
 
 -- a fixed point is read at the feet of a colouring
 pub feet_onto : (t : Table) → IsQuandle t → (b : Word) → IsBraid b → (xs : List ℕ) → IsFixedPoint t b xs
-    → (colours : List ℕ) × IsColouring t (closure b) colours × (at_feet b colours ≡ xs)
+    → (colours : List ℕ) × IsColouring t (closure b) colours × (at_closure_feet b colours ≡ xs)
 feet_onto t q b braid xs point =
     let colour = by_tuple t b xs in
     let is = tuple_below t q b braid xs point in (

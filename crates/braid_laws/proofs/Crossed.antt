@@ -10,7 +10,7 @@ use Rattle.quandle_core.specs.Quandle.{Table, back}
 use Rattle.colour_rows.specs.Walk.{walk}
 use Rattle.braid_closure.specs.declared.columns.Column.{Column}
 use Rattle.braid_closure.specs.Columns.{begun, ended, diagram_of}
-use Rattle.braid_closure.specs.Closure.{positive, negative, closing, top_row}
+use Rattle.braid_closure.specs.Closure.{positive_columns, negative_columns, closing, top_row}
 use Rattle.braid_closure.proofs.Positions.{Pair, positive_is, negative_is}
 use Rattle.braid_closure.proofs.Stages.{x_rows, up_front, up_back}
 use Rattle.braid_laws.proofs.Cut.{cut, cut_split, here_x, here_o}
@@ -67,7 +67,7 @@ Low r c = c.x < r
 
 -- the row of letter +k: from the new column under the column of position k to the one that ends
 pub positive_under : (r k : ℕ) (columns body behind : List Column) (pair : Pair k columns)
-    → All Rising body → All (Low r) columns → cut r body ≡ positive k r columns
+    → All Rising body → All (Low r) columns → cut r body ≡ positive_columns k r columns
     → PassesUnder r (body ++ behind) r pair.first.x pair.second.x false
 positive_under r k columns body behind pair rising below cut_is =
     let after = pair.between ++ ended r pair.second ∷ pair.right in
@@ -98,14 +98,14 @@ positive_under r k columns body behind pair rising below cut_is =
     }
 
 pub positive_row : (t : Table) (colour : ℕ → ℕ) (r k : ℕ) (columns body behind : List Column) (pair : Pair k columns)
-    → IsGrid (diagram_of (body ++ behind)) → All Rising body → All (Low r) columns → cut r body ≡ positive k r columns
+    → IsGrid (diagram_of (body ++ behind)) → All Rising body → All (Low r) columns → cut r body ≡ positive_columns k r columns
     → Reads t colour r (body ++ behind) (back t (colour r) (colour pair.first.x)) (colour pair.second.x)
 positive_row t colour r k columns body behind pair grid rising below cut_is =
     reads_under t colour r (body ++ behind) r pair.first.x pair.second.x false grid (positive_under r k columns body behind pair rising below cut_is)
 
 -- the row of letter -k: from the column that ends under the column of position k+1 to the new one
 pub negative_under : (r k : ℕ) (columns body behind : List Column) (pair : Pair k columns)
-    → All Rising body → All (Low r) columns → cut r body ≡ negative k r columns
+    → All Rising body → All (Low r) columns → cut r body ≡ negative_columns k r columns
     → PassesUnder r (body ++ behind) pair.first.x pair.second.x r true
 negative_under r k columns body behind pair rising below cut_is =
     let after = begun r ∷ pair.right in
@@ -139,7 +139,7 @@ negative_under r k columns body behind pair rising below cut_is =
     }
 
 pub negative_row : (t : Table) (colour : ℕ → ℕ) (r k : ℕ) (columns body behind : List Column) (pair : Pair k columns)
-    → IsGrid (diagram_of (body ++ behind)) → All Rising body → All (Low r) columns → cut r body ≡ negative k r columns
+    → IsGrid (diagram_of (body ++ behind)) → All Rising body → All (Low r) columns → cut r body ≡ negative_columns k r columns
     → Reads t colour r (body ++ behind) (back t (colour pair.first.x) (colour pair.second.x)) (colour r)
 negative_row t colour r k columns body behind pair grid rising below cut_is =
     reads_under t colour r (body ++ behind) pair.first.x pair.second.x r true grid (negative_under r k columns body behind pair rising below cut_is)

@@ -9,7 +9,7 @@ use Rattle.std.proofs.lemmas.List.Elements.{All-head, All-tail}
 use Rattle.braid_core.specs.Braid.{IsLetter}
 use Rattle.braid_closure.specs.declared.columns.Column.{Column}
 use Rattle.braid_closure.specs.Columns.{begun, ended, is_open, at_position}
-use Rattle.braid_closure.specs.Closure.{positive, negative, after_letter, after_letters, ended_at_the_top, top_row}
+use Rattle.braid_closure.specs.Closure.{positive_columns, negative_columns, after_letter, after_letters, ended_at_the_top, top_row}
 use Rattle.braid_closure.proofs.Positions.{Pair, positive_is, negative_is}
 use Rattle.braid_closure.proofs.Stages.{IsStage, EndsBelow, open_none, letter_pair, stage_as, stage_letter}
 use Rattle.braid_closure.proofs.Grids.{top_split, ended_at_top_is, stage_top}
@@ -50,7 +50,7 @@ cut_whole r (c ∷ columns) xs os =
     ∙ ap (λ (zs : List Column). c ∷ zs) (cut_whole r columns (All-tail (λ (d : Column). d.x < r + 1) c columns xs) (All-tail (EndsBelow (r + 1)) c columns os))
 
 -- the rows above leave it as it is
-cut_positive : (s r k : ℕ) (columns : List Column) → s < r → (pair : Pair k columns) → cut s (positive k r columns) ≡ cut s columns
+cut_positive : (s r k : ℕ) (columns : List Column) → s < r → (pair : Pair k columns) → cut s (positive_columns k r columns) ≡ cut s columns
 cut_positive s r k columns lt pair =
     ap (cut s) (positive_is k r columns pair)
     ∙ (cut_append s pair.left (begun r ∷ pair.first ∷ (pair.between ++ ended r pair.second ∷ pair.right))
@@ -62,7 +62,7 @@ cut_positive s r k columns lt pair =
     ∙ (sym (cut_append s pair.left (pair.first ∷ (pair.between ++ pair.second ∷ pair.right)))
     ∙ ap (cut s) (sym pair.is)))))
 
-cut_negative : (s r k : ℕ) (columns : List Column) → s < r → (pair : Pair k columns) → cut s (negative k r columns) ≡ cut s columns
+cut_negative : (s r k : ℕ) (columns : List Column) → s < r → (pair : Pair k columns) → cut s (negative_columns k r columns) ≡ cut s columns
 cut_negative s r k columns lt pair =
     ap (cut s) (negative_is k r columns pair)
     ∙ (cut_append s pair.left (ended r pair.first ∷ (pair.between ++ pair.second ∷ begun r ∷ pair.right))

@@ -18,7 +18,8 @@ use Rattle.braid_core.specs.Action.{action}
 use Rattle.braid_core.specs.FixedPoints.{IsFixedPoint}
 use Rattle.braid_closure.specs.declared.columns.Column.{Column}
 use Rattle.braid_closure.specs.Columns.{begun, open_columns}
-use Rattle.braid_closure.specs.Closure.{after_letters, feet_columns, top_row, ended_at_the_top, closing, closure_size, columns, closure, at_feet, colour_of}
+use Rattle.braid_closure.specs.Closure.{after_letters, feet_columns, top_row, ended_at_the_top, closing, closure_size, columns, closure, at_closure_feet}
+use Rattle.braid_closure.specs.Closure.{colour_of_column}
 use Rattle.braid_closure.proofs.Stages.{IsStage, x_rows, first_stage, stage_as, stage_letters, begun_open}
 use Rattle.braid_closure.proofs.Grids.{body_stage, closure_grid, size_closure}
 use Rattle.braid_laws.proofs.Cut.{cut, cut_letters, cut_ended_at_top}
@@ -94,7 +95,7 @@ range_agree f g m each =
     let inside : i < m = omega (arith, lt, long) in
     get_or-map-range_with_len f 0 m i i 0 inside (zero-add i) ∙ (each i inside ∙ sym (get_or-map-range_with_len g 0 m i i 0 inside (zero-add i))))
 
-pub feet_read : (b : Word) (colours : List ℕ) → at_feet b colours ≡ map (colour_by b colours) (range_with_len 0 b.strands)
+pub feet_read : (b : Word) (colours : List ℕ) → at_closure_feet b colours ≡ map (colour_by b colours) (range_with_len 0 b.strands)
 feet_read b colours = map-map (slice_index colours) (column_of Cross (closure b)) (range_with_len 0 b.strands)
 
 pub feet_columns_read : (colour : ℕ → ℕ) (m : ℕ) → open_colours colour (feet_columns m) ≡ map colour (range_with_len 0 m)
@@ -149,7 +150,7 @@ colouring_closes t b braid colours is r lt =
 
 -- a colouring read at the feet is a fixed point
 pub feet_fixed : (t : Table) → IsQuandle t → (b : Word) → IsBraid b → (colours : List ℕ) → IsColouring t (closure b) colours
-    → IsFixedPoint t b (at_feet b colours)
+    → IsFixedPoint t b (at_closure_feet b colours)
 feet_fixed t q b braid colours is =
     let colour = colour_by b colours in
     let below = colouring_below t q b braid colours is in
@@ -168,7 +169,7 @@ feet_fixed t q b braid colours is =
 -- at each height the open columns have the feet's colours after the letters so far
 pub heights : (t : Table) → IsQuandle t → (b : Word) → IsBraid b → (colours : List ℕ) → IsColouring t (closure b) colours → (i : ℕ)
     → i ≤ length b.letters
-    → map (colour_of b colours) (open_columns (after_letters b.strands (feet_columns b.strands) (take i b.letters))) ≡ action t (take i b.letters) (at_feet b colours)
+    → map (colour_of_column b colours) (open_columns (after_letters b.strands (feet_columns b.strands) (take i b.letters))) ≡ action t (take i b.letters) (at_closure_feet b colours)
 heights t q b braid colours is i most =
     let colour = colour_by b colours in
     let follows = rows_follow t colour b braid (colouring_below t q b braid colours is) (colouring_closes t b braid colours is) in

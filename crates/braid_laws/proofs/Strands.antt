@@ -8,7 +8,7 @@ use Rattle.braid_core.specs.Action as acts
 use Rattle.braid_laws.proofs.Pairs.{low_at, high_at, pair_positive, pair_negative}
 use Rattle.braid_closure.specs.declared.columns.Column.{Column}
 use Rattle.braid_closure.specs.Columns.{begun, ended, open_columns}
-use Rattle.braid_closure.specs.Closure.{positive, negative, after_letter}
+use Rattle.braid_closure.specs.Closure.{positive_columns, negative_columns, after_letter}
 use Rattle.braid_closure.proofs.Positions.{Pair, pair_open, positive_is, negative_is, open_append, open_here}
 use Rattle.braid_closure.proofs.Stages.{IsStage, letter_pair}
 use Rattle.braid_laws.proofs.Walked.{colours_of}
@@ -52,7 +52,7 @@ open_mid colour k columns pair = record {
 }
 
 open_positive : (colour : ℕ → ℕ) (k r : ℕ) (columns : List Column) (pair : Pair k columns)
-    → open_colours colour (positive k r columns) ≡ open_colours colour pair.left ++ colour r ∷ colour pair.first.x ∷ open_colours colour pair.right
+    → open_colours colour (positive_columns k r columns) ≡ open_colours colour pair.left ++ colour r ∷ colour pair.first.x ∷ open_colours colour pair.right
 open_positive colour k r columns pair =
     ap (open_colours colour) (positive_is k r columns pair)
     ∙ (ap (colours_of colour) (open_append pair.left (begun r ∷ pair.first ∷ (pair.between ++ ended r pair.second ∷ pair.right))
@@ -62,7 +62,7 @@ open_positive colour k r columns pair =
     ∙ map-append (λ (c : Column). colour c.x) (open_columns pair.left) (begun r ∷ pair.first ∷ open_columns pair.right))
 
 open_negative : (colour : ℕ → ℕ) (k r : ℕ) (columns : List Column) (pair : Pair k columns)
-    → open_colours colour (negative k r columns) ≡ open_colours colour pair.left ++ colour pair.second.x ∷ colour r ∷ open_colours colour pair.right
+    → open_colours colour (negative_columns k r columns) ≡ open_colours colour pair.left ++ colour pair.second.x ∷ colour r ∷ open_colours colour pair.right
 open_negative colour k r columns pair =
     ap (open_colours colour) (negative_is k r columns pair)
     ∙ (ap (colours_of colour) (open_append pair.left (ended r pair.first ∷ (pair.between ++ pair.second ∷ begun r ∷ pair.right))

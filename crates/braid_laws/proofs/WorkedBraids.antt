@@ -5,7 +5,7 @@ use Rattle.quandle_core.specs.Tables.{trivial, dihedral, tetrahedral}
 use Rattle.braid_core.specs.Braid.{Word}
 use Rattle.braid_core.specs.Action.{letter_action, action}
 use Rattle.braid_core.specs.FixedPoints.{fixed_points, all_tuples, wide_fault}
-use Rattle.braid_core.specs.Fault.{first_fault}
+use Rattle.braid_core.specs.Fault.{first_word_fault}
 use Rattle.braid_core.specs.declared.fault.BraidFault.TheVariants.{Strands, Letter, Size}
 use Rattle.braid_core.specs.declared.tuples.FixFault.TheVariants.{TooWide}
 
@@ -71,23 +71,23 @@ components : fixed_points (trivial 2) (word 2 (minus_one ∷ [])) ≡ (0 ∷ 0 �
 components = refl
 
 -- the first fault in its order
-no_strands : first_fault (word 0 []) ≡ Some Strands
+no_strands : first_word_fault (word 0 []) ≡ Some Strands
 no_strands = refl
 
-nine_strands : first_fault (word 9 (pos 9 ∷ [])) ≡ Some Strands
+nine_strands : first_word_fault (word 9 (pos 9 ∷ [])) ≡ Some Strands
 nine_strands = refl
 
-third_letter : first_fault (word 3 (plus 2 ∷ minus_two ∷ plus 3 ∷ pos 0 ∷ [])) ≡ Some (Letter 2)
+third_letter : first_word_fault (word 3 (plus 2 ∷ minus_two ∷ plus 3 ∷ pos 0 ∷ [])) ≡ Some (Letter 2)
 third_letter = refl
 
-zero_letter : first_fault (word 3 (plus 1 ∷ pos 0 ∷ [])) ≡ Some (Letter 1)
+zero_letter : first_word_fault (word 3 (plus 1 ∷ pos 0 ∷ [])) ≡ Some (Letter 1)
 zero_letter = refl
 
 -- one letter more than eight strands leave room for, and as many
-no_room : first_fault (word 8 (replicate (MAX_SIZE - 16) (plus 1) ++ plus 7 ∷ [])) ≡ Some Size
+no_room : first_word_fault (word 8 (replicate (MAX_SIZE - 16) (plus 1) ++ plus 7 ∷ [])) ≡ Some Size
 no_room = refl
 
-just_room : first_fault (word 8 (replicate (MAX_SIZE - 17) (plus 1) ++ plus 7 ∷ [])) ≡ None
+just_room : first_word_fault (word 8 (replicate (MAX_SIZE - 17) (plus 1) ++ plus 7 ∷ [])) ≡ None
 just_room = refl
 
 four_wide : wide_fault (trivial 16) (word 4 []) ≡ None

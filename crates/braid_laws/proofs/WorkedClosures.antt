@@ -4,7 +4,7 @@ use Rattle.grid_core.specs.Diagram.{Diagram}
 use Rattle.braid_core.specs.Braid.{Word}
 use Rattle.quandle_core.specs.Tables.{dihedral, tetrahedral}
 use Rattle.colour_rows.specs.Colouring.{is_colouring}
-use Rattle.braid_closure.specs.Closure.{closure, feet, at_feet}
+use Rattle.braid_closure.specs.Closure.{closure, feet, at_closure_feet}
 
 abbrev minus_one : ℤ
 minus_one = negsuc 0
@@ -35,7 +35,7 @@ by_rotations = refl
 other_rotation : is_colouring tetrahedral (closure (word 2 (pos 1 ∷ pos 1 ∷ pos 1 ∷ []))) (0 ∷ 1 ∷ 3 ∷ 0 ∷ 1 ∷ 1 ∷ 0 ∷ []) ≡ false
 other_rotation = refl
 
-read_at_feet : at_feet (word 2 (pos 1 ∷ pos 1 ∷ pos 1 ∷ [])) (0 ∷ 1 ∷ 2 ∷ 0 ∷ 1 ∷ 1 ∷ 0 ∷ []) ≡ 0 ∷ 1 ∷ []
+read_at_feet : at_closure_feet (word 2 (pos 1 ∷ pos 1 ∷ pos 1 ∷ [])) (0 ∷ 1 ∷ 2 ∷ 0 ∷ 1 ∷ 1 ∷ 0 ∷ []) ≡ 0 ∷ 1 ∷ []
 read_at_feet = refl
 
 -- an unknot of one negative crossing

@@ -6,13 +6,13 @@ ghost use Rattle.std.specs.Ordering.{nat_cmp};
 ghost use Rattle.quandle_core.specs.Quandle.{Table, IsQuandle, over, back};
 ghost use Rattle.quandle_core.specs.Bijection.{IsBijection};
 ghost use Rattle.braid_core.specs.Braid.{Word, IsLetter, IsBraid};
-ghost use Rattle.braid_core.specs.Fault.{first_fault};
+ghost use Rattle.braid_core.specs.Fault.{first_word_fault};
 ghost use Rattle.braid_core.specs.Action.{IsTuple, letter_action, action};
 ghost use Rattle.braid_core.specs.FixedPoints.{fixed_points, IsFixedPoint};
 
 /// A number of strands and a list of letters have no fault exactly where they are a braid.
 pub fn no_fault_is_a_braid()
-    ensures { (b : Word) → (first_fault b ≡ None) ↔ IsBraid b }
+    ensures { (b : Word) → (first_word_fault b ≡ None) ↔ IsBraid b }
 {}
 
 /// A letter and its negative undo each other.

@@ -9,7 +9,7 @@ ghost use Rattle.braid_core.specs.Braid.{Word, IsBraid};
 ghost use Rattle.braid_core.specs.Action.{action};
 ghost use Rattle.braid_core.specs.FixedPoints.{IsFixedPoint};
 ghost use Rattle.braid_closure.specs.Columns.{open_columns};
-ghost use Rattle.braid_closure.specs.Closure.{feet_columns, after_letters, closure, closure_size, letter_sign, at_feet, colour_of};
+ghost use Rattle.braid_closure.specs.Closure.{feet_columns, after_letters, closure, closure_size, letter_sign, at_closure_feet, colour_of_column};
 
 /// The closure of each braid is a grid, of size l + 2m for l letters and m strands.
 pub fn a_closure_is_a_grid()
@@ -33,13 +33,13 @@ pub fn the_open_columns_follow_the_braid()
     ensures { (t : Table) → IsQuandle t → (b : Word) → IsBraid b
         → (colours : List ℕ) → IsColouring t (closure b) colours
         → (i : ℕ) → i ≤ length b.letters
-        → map (colour_of b colours) (open_columns (after_letters b.strands (feet_columns b.strands) (take i b.letters)))
-        ≡ action t (take i b.letters) (at_feet b colours) }
+        → map (colour_of_column b colours) (open_columns (after_letters b.strands (feet_columns b.strands) (take i b.letters)))
+        ≡ action t (take i b.letters) (at_closure_feet b colours) }
 {}
 
 /// Reading a colouring of the closure at its feet, position 1 first, is a bijection from the colourings to the fixed points of the braid's action.
 ///
 /// The fixed points are those of the complete list: `braid_laws::braids::the_fixed_points_are_listed`.
 pub fn colourings_at_the_feet_are_the_fixed_points()
-    ensures { (t : Table) → IsQuandle t → (b : Word) → IsBraid b → IsBijection (IsColouring t (closure b)) (IsFixedPoint t b) (at_feet b) }
+    ensures { (t : Table) → IsQuandle t → (b : Word) → IsBraid b → IsBijection (IsColouring t (closure b)) (IsFixedPoint t b) (at_closure_feet b) }
 {}

@@ -8,8 +8,8 @@ use Rattle.braid_moves.specs.declared.step.BraidMoveFault.TheVariants.{Range, Sh
 use Rattle.braid_moves.specs.declared.ruling.BraidRuling.{BraidRuling}
 use Rattle.braid_moves.specs.declared.ruling.BraidRuling.TheVariants.{Accepted, Step, OtherEnd}
 use Rattle.braid_moves.specs.Step.{moved}
-use Rattle.braid_moves.specs.Fault.{unless, first_fault}
-use Rattle.braid_moves.specs.Ruling.{are_same, by_fault, ruled}
+use Rattle.braid_moves.specs.Fault.{fault_unless, first_step_fault}
+use Rattle.braid_moves.specs.Ruling.{are_same_words, by_fault, ruled}
 
 -- it is another fault, or none
 abbrev IsFree : Option BraidMoveFault → Type 0
@@ -27,11 +27,12 @@ shape_free e = cc
 full_free : IsFree (Some Full)
 full_free e = cc
 
-unless_free : (holds : Bool) (fault : BraidMoveFault) (next : Option BraidMoveFault) → IsFree (Some fault) → IsFree next → IsFree (unless holds fault next)
+unless_free : (holds : Bool) (fault : BraidMoveFault) (next : Option BraidMoveFault) → IsFree (Some fault) → IsFree next
+    → IsFree (fault_unless holds fault next)
 unless_free true fault next here after e = after e
 unless_free false fault next here after e = here e
 
-pub never_memory : (w : Word) (step : BraidMove) → IsFree (first_fault w step)
+pub never_memory : (w : Word) (step : BraidMove) → IsFree (first_step_fault w step)
 never_memory w (Far p) = unless_free _ Range _ range_free (unless_free _ Shape None shape_free none_free)
 never_memory w (Triple p) = unless_free _ Range _ range_free (unless_free _ Shape None shape_free none_free)
 never_memory w (Cancel p) = unless_free _ Range _ range_free (unless_free _ Shape None shape_free none_free)
@@ -56,9 +57,9 @@ fault_free (Some fault) place rest here after = here
 fault_free None place rest here after = after
 
 ruled_free : (word wanted : Word) (place : ℕ) (steps : List BraidMove) → IsFree (fault_of (ruled word wanted place steps))
-ruled_free word wanted place [] = end_free (are_same word wanted)
+ruled_free word wanted place [] = end_free (are_same_words word wanted)
 ruled_free word wanted place (step ∷ steps) =
-    fault_free (first_fault word step) place (ruled (moved word step) wanted (place + 1) steps) (never_memory word step)
+    fault_free (first_step_fault word step) place (ruled (moved word step) wanted (place + 1) steps) (never_memory word step)
     (ruled_free (moved word step) wanted (place + 1) steps)
 
 pub never_ruled : (word wanted : Word) (from : ℕ) (steps : List BraidMove) (place : ℕ) → ruled word wanted from steps ≡ Step place OutOfMemory → ⊥

@@ -13,16 +13,16 @@ use Rattle.braid_moves.specs.declared.step.BraidMoveFault.{BraidMoveFault}
 use Rattle.braid_moves.specs.declared.ruling.BraidRuling.{BraidRuling}
 use Rattle.braid_moves.specs.declared.ruling.BraidRuling.TheVariants.{Accepted, Step, OtherEnd}
 use Rattle.braid_moves.specs.Step.{moved}
-use Rattle.braid_moves.specs.Fault.{first_fault}
-use Rattle.braid_moves.specs.Carried.{carried}
-use Rattle.braid_moves.specs.Ruling.{are_same, by_fault, ruled, ruling}
+use Rattle.braid_moves.specs.Fault.{first_step_fault}
+use Rattle.braid_moves.specs.Carried.{carried_tuple}
+use Rattle.braid_moves.specs.Ruling.{are_same_words, by_fault, ruled, ruling}
 use Rattle.braid_moves.proofs.Steps.{step_braid, step_carries}
 use Rattle.braid_moves.proofs.Listings.{equally_many}
 
 abbrev word : ℕ → List ℤ → Word
 word m letters = record { strands = m; letters = letters }
 
-pub same_from : (v w : Word) → are_same v w ≡ true → v ≡ w
+pub same_from : (v w : Word) → are_same_words v w ≡ true → v ≡ w
 same_from v w e =
     let parts = and_parts (v.strands == w.strands) (pointwise int_eq v.letters w.letters) e in
     ap₂ word (eqb-true v.strands w.strands parts.0) ((slice_eq-Decides Decides-int_eq v.letters w.letters
@@ -42,10 +42,10 @@ legal_from None place rest e = record { none = refl; after = e }
 
 ruled_equal : (t : Table) → IsQuandle t → (v w : Word) → IsBraid v → (place : ℕ) (steps : List BraidMove) → ruled v w place steps ≡ Accepted
     → length (fixed_points t v) ≡ length (fixed_points t w)
-ruled_equal t q v w braid place [] e = ap (λ (u : Word). length (fixed_points t u)) (same_from v w (accepted_end (are_same v w) e))
+ruled_equal t q v w braid place [] e = ap (λ (u : Word). length (fixed_points t u)) (same_from v w (accepted_end (are_same_words v w) e))
 ruled_equal t q v w braid place (step ∷ steps) e =
-    let legal = legal_from (first_fault v step) place (ruled (moved v step) w (place + 1) steps) e in
-    equally_many t v (moved v step) (carried t v step) (step_carries t q v braid step legal.none)
+    let legal = legal_from (first_step_fault v step) place (ruled (moved v step) w (place + 1) steps) e in
+    equally_many t v (moved v step) (carried_tuple t v step) (step_carries t q v braid step legal.none)
     ∙ ruled_equal t q (moved v step) w (step_braid v braid step legal.none) (place + 1) steps legal.after
 
 pub accepted_equal : (t : Table) → IsQuandle t → (v w : Word) → IsBraid v → (steps : List BraidMove) → ruling v w steps ≡ Accepted

@@ -14,7 +14,7 @@ use Rattle.grid_core.specs.declared.grid.TheConstants.{MAX_SIZE}
 use Rattle.quandle_core.specs.Quandle.{Table, IsQuandle}
 use Rattle.quandle_core.specs.Bijection.{IsBijection}
 use Rattle.braid_core.specs.Braid.{Word, IsLetter, IsBraid}
-use Rattle.braid_core.specs.Fault.{is_outside}
+use Rattle.braid_core.specs.Fault.{is_outside_strands}
 use Rattle.braid_core.specs.FixedPoints.{IsFixedPoint}
 use Rattle.braid_core.specs.declared.braid.TheConstants.{MAX_STRANDS}
 use Rattle.braid_laws.proofs.Letters.{letter_negated}
@@ -23,28 +23,28 @@ use Rattle.braid_moves.specs.declared.step.BraidMove.{BraidMove}
 use Rattle.braid_moves.specs.declared.step.BraidMove.TheVariants.{Far, Triple, Cancel, Insert, Turn, Grow, Shrink}
 use Rattle.braid_moves.specs.declared.step.BraidMoveFault.{BraidMoveFault}
 use Rattle.braid_moves.specs.declared.step.BraidMoveFault.TheVariants.{Range, Shape, Full}
-use Rattle.braid_moves.specs.Step.{letter_at, crossing, with_letters, moved}
-use Rattle.braid_moves.specs.Fault.{are_far, are_triple, may_shrink, unless, first_fault}
-use Rattle.braid_moves.specs.Carried.{carried}
+use Rattle.braid_moves.specs.Step.{letter_at, letter_of_crossing, with_letters, moved}
+use Rattle.braid_moves.specs.Fault.{are_far, are_triple, may_shrink, fault_unless, first_step_fault}
+use Rattle.braid_moves.specs.Carried.{carried_tuple}
 use Rattle.braid_moves.proofs.Same.{ActAlike, at, two_at, three_at, letter_is, alike_within, alike_fixed, far_alike, cancel_alike, triple_alike}
 use Rattle.braid_moves.proofs.Turned.{turned_fixed, grown_fixed, dropped_fixed}
 
 -- a test that must hold where there is no fault
-pub none_unless : (b : Bool) (fault : BraidMoveFault) (next : Option BraidMoveFault) → unless b fault next ≡ None → (b ≡ true) × (next ≡ None)
+pub none_unless : (b : Bool) (fault : BraidMoveFault) (next : Option BraidMoveFault) → fault_unless b fault next ≡ None → (b ≡ true) × (next ≡ None)
 none_unless true fault next e = (refl, e)
 none_unless false fault next e = absurd (let never : ◌≡◌ {A = Option BraidMoveFault} (Some fault) None = e in cc)
 
-not_outside : (m : ℕ) (a : ℤ) → not (is_outside m a) ≡ true → IsLetter m a
-not_outside m a e = letter_from m a (not-true (is_outside m a) e)
+not_outside : (m : ℕ) (a : ℤ) → not (is_outside_strands m a) ≡ true → IsLetter m a
+not_outside m a e = letter_from m a (not-true (is_outside_strands m a) e)
 
 -- what is known of a word without its last letter
 record LastLetter (w : Word) : Type 0 where
   strands : 2 ≤ w.strands
   positive : Bool
-  letters : w.letters ≡ take (length w.letters - 1) w.letters ++ crossing (w.strands - 1) positive ∷ []
+  letters : w.letters ≡ take (length w.letters - 1) w.letters ++ letter_of_crossing (w.strands - 1) positive ∷ []
   fewer : All (IsLetter (w.strands - 1)) (take (length w.letters - 1) w.letters)
 
-pub crossing_is : (k : ℕ) (a : ℤ) → unsigned_abs a ≡ k → 1 ≤ k → (s : Bool) × (a ≡ crossing k s)
+pub crossing_is : (k : ℕ) (a : ℤ) → unsigned_abs a ≡ k → 1 ≤ k → (s : Bool) × (a ≡ letter_of_crossing k s)
 crossing_is k (pos j) e least = (true, ap pos e)
 crossing_is zero (negsuc j) e least = absurd (omega arith)
 crossing_is (suc k) (negsuc j) e least = (false, ap negsuc (omega arith))
@@ -86,7 +86,7 @@ shorter : (w : Word) → IsBraid w → (n : ℕ) → n ≤ length w.letters → 
 shorter w braid n le = let room = braid.room in omega arith
 
 -- the step of each kind
-pub step_braid : (w : Word) → IsBraid w → (step : BraidMove) → first_fault w step ≡ None → IsBraid (moved w step)
+pub step_braid : (w : Word) → IsBraid w → (step : BraidMove) → first_step_fault w step ≡ None → IsBraid (moved w step)
 step_braid w braid (Far p) e =
     let m = w.strands in
     let ls = w.letters in
@@ -126,8 +126,8 @@ step_braid w braid (Cancel p) e =
 step_braid w braid (Insert place a) e =
     let m = w.strands in
     let ls = w.letters in
-    let range = none_unless (nat_le place (length ls) && not (is_outside m a)) Range _ e in
-    let parts = and_parts (nat_le place (length ls)) (not (is_outside m a)) range.0 in
+    let range = none_unless (nat_le place (length ls) && not (is_outside_strands m a)) Range _ e in
+    let parts = and_parts (nat_le place (length ls)) (not (is_outside_strands m a)) range.0 in
     let letter = not_outside m a parts.1 in
     let full = none_unless (nat_le (length ls + 2 + 2 * m) MAX_SIZE) Full None range.1 in
     let room = leb-true (length ls + 2 + 2 * m) MAX_SIZE full.0 in
@@ -156,20 +156,20 @@ step_braid w braid (Grow positive) e =
     let few = ltb-true m MAX_STRANDS parts.0 in
     let room = leb-true (length ls + 3 + 2 * m) MAX_SIZE parts.1 in
     let least = braid.least in
-    let now = length-append ls (crossing m positive ∷ []) in
+    let now = length-append ls (letter_of_crossing m positive ∷ []) in
     record {
       least = omega arith;
       most = omega arith;
-      crossings = All-append (IsLetter (m + 1)) ls (crossing m positive ∷ [])
+      crossings = All-append (IsLetter (m + 1)) ls (letter_of_crossing m positive ∷ [])
           (λ k d lt. let letter = braid.crossings k d lt in let below = letter.most in record { least = letter.least; most = omega arith })
-          (All-cons (IsLetter (m + 1)) (crossing m positive) [] (crossing_letter m positive least) (All-nil (IsLetter (m + 1))));
+          (All-cons (IsLetter (m + 1)) (letter_of_crossing m positive) [] (crossing_letter m positive least) (All-nil (IsLetter (m + 1))));
       room = omega arith;
     }
   where
     plus_letter : (k : ℕ) → 1 ≤ k → IsLetter (k + 1) (pos k)
     plus_letter k least = record { least = least; most = omega arith }
 
-    crossing_letter : (k : ℕ) (s : Bool) → 1 ≤ k → IsLetter (k + 1) (crossing k s)
+    crossing_letter : (k : ℕ) (s : Bool) → 1 ≤ k → IsLetter (k + 1) (letter_of_crossing k s)
     crossing_letter k true least = plus_letter k least
     crossing_letter k false least = letter_negated (k + 1) (pos k) (plus_letter k least)
 step_braid w braid Shrink e =
@@ -193,8 +193,8 @@ from_letters t m letters front us vs rest is alike =
     (alike_fixed t m (front ++ (us ++ rest)) (front ++ (vs ++ rest)) alike)
 
 -- the fixed points of the new braid
-pub step_carries : (t : Table) → IsQuandle t → (w : Word) → IsBraid w → (step : BraidMove) → first_fault w step ≡ None
-    → IsBijection (IsFixedPoint t w) (IsFixedPoint t (moved w step)) (carried t w step)
+pub step_carries : (t : Table) → IsQuandle t → (w : Word) → IsBraid w → (step : BraidMove) → first_step_fault w step ≡ None
+    → IsBijection (IsFixedPoint t w) (IsFixedPoint t (moved w step)) (carried_tuple t w step)
 step_carries t q w braid (Far p) e =
     let m = w.strands in
     let ls = w.letters in
@@ -229,15 +229,16 @@ step_carries t q w braid (Cancel p) e =
 step_carries t q w braid (Insert place a) e =
     let m = w.strands in
     let ls = w.letters in
-    let range = none_unless (nat_le place (length ls) && not (is_outside m a)) Range _ e in
-    let parts = and_parts (nat_le place (length ls)) (not (is_outside m a)) range.0 in
+    let range = none_unless (nat_le place (length ls) && not (is_outside_strands m a)) Range _ e in
+    let parts = and_parts (nat_le place (length ls)) (not (is_outside_strands m a)) range.0 in
     from_letters t m ls (take place ls) [] (a ∷ neg_ℤ a ∷ []) (drop place ls) (sym (take-append-drop place ls))
     (alike_within t q m (take place ls) [] (a ∷ neg_ℤ a ∷ []) (drop place ls) (All-take (IsLetter m) place ls braid.crossings)
     (λ xs tuple. sym (cancel_alike t q m a (neg_ℤ a) (not_outside m a parts.1) refl xs tuple)))
 step_carries t q w braid (Turn k) e =
     let m = w.strands in
     let ls = w.letters in
-    subst (λ (us : List ℤ). IsBijection (IsFixedPoint t (record { strands = m; letters = us })) (IsFixedPoint t (moved w (Turn k))) (carried t w (Turn k)))
+    subst
+    (λ (us : List ℤ). IsBijection (IsFixedPoint t (record { strands = m; letters = us })) (IsFixedPoint t (moved w (Turn k))) (carried_tuple t w (Turn k)))
     (take-append-drop k ls)
     (turned_fixed t q m (take k ls) (drop k ls) (All-take (IsLetter m) k ls braid.crossings) (All-drop (IsLetter m) k ls braid.crossings))
 step_carries t q w braid (Grow positive) e = grown_fixed t q w.strands w.letters positive braid.least braid.crossings
@@ -246,6 +247,6 @@ step_carries t q w braid Shrink e =
     let last = last_letter w braid alone.0 in
     let two = last.strands in
     let front = take (length w.letters - 1) w.letters in
-    subst (λ (v : Word). IsBijection (IsFixedPoint t v) (IsFixedPoint t (moved w Shrink)) (carried t w Shrink))
+    subst (λ (v : Word). IsBijection (IsFixedPoint t v) (IsFixedPoint t (moved w Shrink)) (carried_tuple t w Shrink))
     (ap₂ word (let n : w.strands - 1 + 1 ≡ w.strands = omega arith in n) (sym last.letters))
     (dropped_fixed t q (w.strands - 1) front last.positive (omega arith) last.fewer)

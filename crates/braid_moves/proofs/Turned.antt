@@ -11,7 +11,7 @@ use Rattle.braid_core.specs.Action.{IsTuple, letter_action, action}
 use Rattle.braid_core.specs.FixedPoints.{IsFixedPoint}
 use Rattle.braid_laws.proofs.Letters.{letter_stays}
 use Rattle.braid_laws.proofs.Pairs.{split_at, letter_pair, low_of, high_of}
-use Rattle.braid_moves.specs.Step.{crossing}
+use Rattle.braid_moves.specs.Step.{letter_of_crossing}
 use Rattle.braid_moves.proofs.Same.{acts_stay}
 
 abbrev word : ℕ → List ℤ → Word
@@ -65,19 +65,19 @@ acts_front t q m (a ∷ letters) all xs z tuple =
 
 -- the crossing of the last strand and a new one
 cross_positive : (t : Table) (k : ℕ) (front : List ℕ) (u z : ℕ) → length front + 1 ≡ k
-    → letter_action t (front ++ u ∷ z ∷ []) (crossing k true) ≡ front ++ over t z u ∷ u ∷ []
+    → letter_action t (front ++ u ∷ z ∷ []) (letter_of_crossing k true) ≡ front ++ over t z u ∷ u ∷ []
 unfolding low_of high_of
 cross_positive t k front u z e = letter_pair t (pos k) front u z [] e
 
 cross_negative : (t : Table) (k : ℕ) (front : List ℕ) (u z : ℕ) → length front + 1 ≡ k
-    → letter_action t (front ++ u ∷ z ∷ []) (crossing k false) ≡ front ++ z ∷ back t u z ∷ []
+    → letter_action t (front ++ u ∷ z ∷ []) (letter_of_crossing k false) ≡ front ++ z ∷ back t u z ∷ []
 unfolding low_of high_of
 cross_negative t zero front u z e = absurd (omega arith)
 cross_negative t (suc k) front u z e = letter_pair t (negsuc k) front u z [] e
 
 -- the crossing fixes two equal colours
 crosses_equal : (t : Table) → IsQuandle t → (k : ℕ) (positive : Bool) (front : List ℕ) (u : ℕ) → u < t.order → length front + 1 ≡ k
-    → letter_action t (front ++ u ∷ u ∷ []) (crossing k positive) ≡ front ++ u ∷ u ∷ []
+    → letter_action t (front ++ u ∷ u ∷ []) (letter_of_crossing k positive) ≡ front ++ u ∷ u ∷ []
 crosses_equal t q k true front u at e = cross_positive t k front u u e ∙ ap (λ (w : ℕ). front ++ w ∷ u ∷ []) (q.idempotent u at)
 crosses_equal t q k false front u at e =
     cross_negative t k front u u e ∙ ap (λ (w : ℕ). front ++ u ∷ w ∷ []) (ap (λ (w : ℕ). back t w u) (sym (q.idempotent u at)) ∙ q.back_over u u at at)
@@ -96,7 +96,7 @@ two_ends front back_part p r v z e =
     (inner.0, inner.1, outer.1)
 
 crossed_back : (t : Table) → IsQuandle t → (k : ℕ) (positive : Bool) (front back_part : List ℕ) (u v z : ℕ) → u < t.order → z < t.order → length front + 1 ≡ k
-    → letter_action t (front ++ u ∷ z ∷ []) (crossing k positive) ≡ back_part ++ v ∷ z ∷ [] → Ends front back_part u v z
+    → letter_action t (front ++ u ∷ z ∷ []) (letter_of_crossing k positive) ≡ back_part ++ v ∷ z ∷ [] → Ends front back_part u v z
 crossed_back t q k true front back_part u v z at_u at_z e fixed =
     let ends = two_ends front back_part (over t z u) u v z (sym (cross_positive t k front u z e) ∙ fixed) in
     record { fronts = ends.0; last = ends.2; before = sym ends.1 ∙ (ap (over t z) ends.2 ∙ q.idempotent z at_z) }
@@ -117,7 +117,7 @@ doubled m xs = xs ++ get_or xs (m - 1) 0 ∷ []
 
 grown_into : (t : Table) → IsQuandle t → (m : ℕ) (letters : List ℤ) (positive : Bool) → 1 ≤ m → All (IsLetter m) letters → (xs : List ℕ)
     → IsFixedPoint t (word m letters) xs
-    → IsFixedPoint t (word (m + 1) (letters ++ crossing m positive ∷ [])) (doubled m xs)
+    → IsFixedPoint t (word (m + 1) (letters ++ letter_of_crossing m positive ∷ [])) (doubled m xs)
 grown_into t q m letters positive least all xs point =
     let u = get_or xs (m - 1) 0 in
     let long = point.tuple.0 in
@@ -130,8 +130,8 @@ grown_into t q m letters positive least all xs point =
         All-append (λ y. y < t.order) xs (u ∷ []) point.tuple.1
             (All-cons (λ y. y < t.order) u [] at (All-nil (λ y. y < t.order))),
       );
-      fixed = fold-append (letter_action t) (doubled m xs) letters (crossing m positive ∷ [])
-          ∙ (ap (λ (ys : List ℕ). letter_action t ys (crossing m positive))
+      fixed = fold-append (letter_action t) (doubled m xs) letters (letter_of_crossing m positive ∷ [])
+          ∙ (ap (λ (ys : List ℕ). letter_action t ys (letter_of_crossing m positive))
           (acts_front t q m letters all xs u point.tuple ∙ (ap (λ (ys : List ℕ). ys ++ u ∷ []) (point.fixed ∙ whole) ∙ pushed_assoc (take (m - 1) xs) u u))
           ∙ (crosses_equal t q m positive (take (m - 1) xs) u at (omega arith)
           ∙ (sym (pushed_assoc (take (m - 1) xs) u u) ∙ ap (λ (ys : List ℕ). ys ++ u ∷ []) (sym whole))));
@@ -143,7 +143,7 @@ record Dropped (t : Table) (m : ℕ) (letters : List ℤ) (ys : List ℕ) : Type
   again : doubled m (take m ys) ≡ ys
 
 grown_onto : (t : Table) → IsQuandle t → (m : ℕ) (letters : List ℤ) (positive : Bool) → 1 ≤ m → All (IsLetter m) letters → (ys : List ℕ)
-    → IsFixedPoint t (word (m + 1) (letters ++ crossing m positive ∷ [])) ys → Dropped t m letters ys
+    → IsFixedPoint t (word (m + 1) (letters ++ letter_of_crossing m positive ∷ [])) ys → Dropped t m letters ys
 grown_onto t q m letters positive least all ys given =
     let long = given.tuple.0 in
     let xs = take m ys in
@@ -160,11 +160,11 @@ grown_onto t q m letters positive least all ys given =
     let at_u : u < t.order = All-get_or (λ y. y < t.order) acted (m - 1) 0 (let n = acted_tuple.0 in omega arith) acted_tuple.1 in
     let acted_whole = last_split acted m acted_tuple.0 least in
     let xs_whole = last_split xs m size least in
-    let crossed : letter_action t (take (m - 1) acted ++ u ∷ z ∷ []) (crossing m positive) ≡ take (m - 1) xs ++ v ∷ z ∷ [] =
-    sym (ap (λ (zs : List ℕ). letter_action t zs (crossing m positive))
+    let crossed : letter_action t (take (m - 1) acted ++ u ∷ z ∷ []) (letter_of_crossing m positive) ≡ take (m - 1) xs ++ v ∷ z ∷ [] =
+    sym (ap (λ (zs : List ℕ). letter_action t zs (letter_of_crossing m positive))
     (acts_front t q m letters all xs z tuple ∙ (ap (λ (zs : List ℕ). zs ++ z ∷ []) acted_whole ∙ pushed_assoc (take (m - 1) acted) u z)))
-    ∙ (sym (fold-append (letter_action t) (xs ++ z ∷ []) letters (crossing m positive ∷ []))
-    ∙ (ap (action t (letters ++ crossing m positive ∷ [])) (sym whole)
+    ∙ (sym (fold-append (letter_action t) (xs ++ z ∷ []) letters (letter_of_crossing m positive ∷ []))
+    ∙ (ap (action t (letters ++ letter_of_crossing m positive ∷ [])) (sym whole)
     ∙ (given.fixed ∙ (whole ∙ (ap (λ (zs : List ℕ). zs ++ z ∷ []) xs_whole ∙ pushed_assoc (take (m - 1) xs) v z))))) in
     let ends = crossed_back t q m positive (take (m - 1) acted) (take (m - 1) xs) u v z at_u at_z
     (let n = length-take-le (m - 1) acted (let k = acted_tuple.0 in omega arith) in omega arith) crossed in
@@ -178,7 +178,7 @@ grown_onto t q m letters positive least all ys given =
     }
 
 pub grown_fixed : (t : Table) → IsQuandle t → (m : ℕ) (letters : List ℤ) (positive : Bool) → 1 ≤ m → All (IsLetter m) letters
-    → IsBijection (IsFixedPoint t (word m letters)) (IsFixedPoint t (word (m + 1) (letters ++ crossing m positive ∷ []))) (doubled m)
+    → IsBijection (IsFixedPoint t (word m letters)) (IsFixedPoint t (word (m + 1) (letters ++ letter_of_crossing m positive ∷ []))) (doubled m)
 grown_fixed t q m letters positive least all = record {
   into = grown_into t q m letters positive least all;
   onto = λ ys point. let d = grown_onto t q m letters positive least all ys point in (take m ys, d.point, d.again);
@@ -186,7 +186,7 @@ grown_fixed t q m letters positive least all = record {
 }
 
 pub dropped_fixed : (t : Table) → IsQuandle t → (m : ℕ) (letters : List ℤ) (positive : Bool) → 1 ≤ m → All (IsLetter m) letters
-    → IsBijection (IsFixedPoint t (word (m + 1) (letters ++ crossing m positive ∷ []))) (IsFixedPoint t (word m letters)) (take m)
+    → IsBijection (IsFixedPoint t (word (m + 1) (letters ++ letter_of_crossing m positive ∷ []))) (IsFixedPoint t (word m letters)) (take m)
 dropped_fixed t q m letters positive least all = record {
   into = λ ys point. (grown_onto t q m letters positive least all ys point).point;
   onto = λ xs point. (doubled m xs, grown_into t q m letters positive least all xs point, take_at xs (get_or xs (m - 1) 0 ∷ []) m point.tuple.0);

@@ -8,11 +8,11 @@ use Rattle.braid_moves.specs.declared.step.BraidMove.TheVariants.{Far, Triple, C
 
 -- the letters that a turn moves to the end act on the tuple, a new strand repeats the last colour, and a strand that goes takes its colour with it;
 -- every other step keeps the tuple
-abbrev pub carried : Table → Word → BraidMove → List ℕ → List ℕ
-carried t w (Far p) xs = xs
-carried t w (Triple p) xs = xs
-carried t w (Cancel p) xs = xs
-carried t w (Insert place a) xs = xs
-carried t w (Turn k) xs = action t (take k w.letters) xs
-carried t w (Grow positive) xs = xs ++ slice_index xs (w.strands - 1) ∷ []
-carried t w Shrink xs = take (w.strands - 1) xs
+abbrev pub carried_tuple : Table → Word → BraidMove → List ℕ → List ℕ
+carried_tuple t w (Far p) xs = xs
+carried_tuple t w (Triple p) xs = xs
+carried_tuple t w (Cancel p) xs = xs
+carried_tuple t w (Insert place a) xs = xs
+carried_tuple t w (Turn k) xs = action t (take k w.letters) xs
+carried_tuple t w (Grow positive) xs = xs ++ slice_index xs (w.strands - 1) ∷ []
+carried_tuple t w Shrink xs = take (w.strands - 1) xs

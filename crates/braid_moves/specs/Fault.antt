@@ -4,7 +4,7 @@ use Rattle.std.specs.List.{list_all}
 use Rattle.std.specs.Ordering.{int_eq}
 use Rattle.grid_core.specs.declared.grid.TheConstants.{MAX_SIZE}
 use Rattle.braid_core.specs.Braid.{Word}
-use Rattle.braid_core.specs.Fault.{is_outside}
+use Rattle.braid_core.specs.Fault.{is_outside_strands}
 use Rattle.braid_core.specs.declared.braid.TheConstants.{MAX_STRANDS}
 use Rattle.braid_moves.specs.declared.step.BraidMove.{BraidMove}
 use Rattle.braid_moves.specs.declared.step.BraidMove.TheVariants.{Far, Triple, Cancel, Insert, Turn, Grow, Shrink}
@@ -34,16 +34,18 @@ may_shrink w =
     && list_all (λ a. not (unsigned_abs a == w.strands - 1)) (take (length w.letters - 1) w.letters)
 
 -- the fault unless the condition holds, and then what comes after
-abbrev pub unless : Bool → BraidMoveFault → Option BraidMoveFault → Option BraidMoveFault
-unless holds fault next = if holds then next else Some fault
+abbrev pub fault_unless : Bool → BraidMoveFault → Option BraidMoveFault → Option BraidMoveFault
+fault_unless holds fault next = if holds then next else Some fault
 
 -- first that letters and places are there, then the condition on letters and strands, then the room
-abbrev pub first_fault : Word → BraidMove → Option BraidMoveFault
-first_fault w (Far p) = unless (nat_lt (p + 1) (length w.letters)) Range (unless (are_far (letter_at w p) (letter_at w (p + 1))) Shape None)
-first_fault w (Triple p) = unless (nat_lt (p + 2) (length w.letters)) Range (unless (are_triple (letter_at w p) (letter_at w (p + 1)) (letter_at w (p + 2))) Shape None)
-first_fault w (Cancel p) = unless (nat_lt (p + 1) (length w.letters)) Range (unless (int_eq (letter_at w (p + 1)) (neg_ℤ (letter_at w p))) Shape None)
-first_fault w (Insert place a) =
-    unless (nat_le place (length w.letters) && not (is_outside w.strands a)) Range (unless (nat_le (length w.letters + 2 + 2 * w.strands) MAX_SIZE) Full None)
-first_fault w (Turn k) = unless (nat_lt 0 k && nat_lt k (length w.letters)) Range None
-first_fault w (Grow positive) = unless (nat_lt w.strands MAX_STRANDS && nat_le (length w.letters + 3 + 2 * w.strands) MAX_SIZE) Full None
-first_fault w Shrink = unless (may_shrink w) Shape None
+abbrev pub first_step_fault : Word → BraidMove → Option BraidMoveFault
+first_step_fault w (Far p) = fault_unless (nat_lt (p + 1) (length w.letters)) Range (fault_unless (are_far (letter_at w p) (letter_at w (p + 1))) Shape None)
+first_step_fault w (Triple p) = fault_unless (nat_lt (p + 2) (length w.letters)) Range (fault_unless (are_triple (letter_at w p) (letter_at w (p + 1)) (letter_at w (p + 2))) Shape None)
+first_step_fault w (Cancel p) =
+    fault_unless (nat_lt (p + 1) (length w.letters)) Range (fault_unless (int_eq (letter_at w (p + 1)) (neg_ℤ (letter_at w p))) Shape None)
+first_step_fault w (Insert place a) =
+    fault_unless (nat_le place (length w.letters) && not (is_outside_strands w.strands a)) Range
+    (fault_unless (nat_le (length w.letters + 2 + 2 * w.strands) MAX_SIZE) Full None)
+first_step_fault w (Turn k) = fault_unless (nat_lt 0 k && nat_lt k (length w.letters)) Range None
+first_step_fault w (Grow positive) = fault_unless (nat_lt w.strands MAX_STRANDS && nat_le (length w.letters + 3 + 2 * w.strands) MAX_SIZE) Full None
+first_step_fault w Shrink = fault_unless (may_shrink w) Shape None

@@ -10,9 +10,9 @@ abbrev pub letter_at : Word → ℕ → ℤ
 letter_at w p = slice_index_or w.letters p (pos 0)
 
 -- the positive or the negative crossing of the strands at positions m and m+1
-abbrev pub crossing : ℕ → Bool → ℤ
-crossing m true = pos m
-crossing m false = neg_ℤ (pos m)
+abbrev pub letter_of_crossing : ℕ → Bool → ℤ
+letter_of_crossing m true = pos m
+letter_of_crossing m false = neg_ℤ (pos m)
 
 -- other letters of the same strands
 abbrev pub with_letters : Word → List ℤ → Word
@@ -31,6 +31,6 @@ moved w (Insert place a) = with_letters w (take place w.letters ++ a ∷ neg_ℤ
 -- the first k letters go, in order, to the end
 moved w (Turn k) = with_letters w (drop k w.letters ++ take k w.letters)
 -- one strand more, which a last letter crosses with the strand that was the last
-moved w (Grow positive) = record { strands = w.strands + 1; letters = w.letters ++ crossing w.strands positive ∷ [] }
+moved w (Grow positive) = record { strands = w.strands + 1; letters = w.letters ++ letter_of_crossing w.strands positive ∷ [] }
 -- the last letter and the last strand go
 moved w Shrink = record { strands = w.strands - 1; letters = take (length w.letters - 1) w.letters }

@@ -1,7 +1,7 @@
 //! A braid after a step.
 ghost use Rattle.std.specs.Prelude.{◌≡◌, ◌≤◌, ◌⊎◌, None, Some, length, IfOk, IfErr, IsOk};
 ghost use Rattle.braid_moves.specs.Step.{moved};
-ghost use Rattle.braid_moves.specs.Fault.{first_fault};
+ghost use Rattle.braid_moves.specs.Fault.{first_step_fault};
 ghost use Rattle.braid_core.specs.declared.braid.TheConstants.{INLINE_LETTERS};
 ghost use Rattle.braid_moves.specs.declared.step.BraidMoveFault.TheVariants as fault;
 
@@ -15,10 +15,10 @@ use std::alloc::Global;
 ///
 /// Takes memory for more than `INLINE_LETTERS` letters only, once nothing else can be refused.
 pub fn apply_braid(alloc: Global, braid: &Braid, step: BraidMove) -> Result<Braid, BraidMoveFault>
-    ensures braid { IfOk result (λ b. (first_fault braid.now step ≡ None) × (b ≡ moved braid.now step)) }
-    ensures fault { IfErr result (λ e. (first_fault braid.now step ≡ Some e)
-        ⊎ (first_fault braid.now step ≡ None) × (e ≡ fault.OutOfMemory)) }
-    ensures inline { first_fault braid.now step ≡ None → length (moved braid.now step).letters ≤ INLINE_LETTERS → IsOk result }
+    ensures braid { IfOk result (λ b. (first_step_fault braid.now step ≡ None) × (b ≡ moved braid.now step)) }
+    ensures fault { IfErr result (λ e. (first_step_fault braid.now step ≡ Some e)
+        ⊎ (first_step_fault braid.now step ≡ None) × (e ≡ fault.OutOfMemory)) }
+    ensures inline { first_step_fault braid.now step ≡ None → length (moved braid.now step).letters ≤ INLINE_LETTERS → IsOk result }
 {
     let _strands = braid.strands();
     if let Some(fault) = fault_of(braid, step) {

@@ -5,8 +5,8 @@ ghost use Rattle.braid_core.specs.Braid.{IsLetter};
 ghost use Rattle.braid_core.specs.Action.{IsTuple, letter_action, action};
 ghost use Rattle.braid_core.specs.FixedPoints.{IsFixedPoint};
 ghost use Rattle.braid_moves.specs.Step.{moved};
-ghost use Rattle.braid_moves.specs.Fault.{first_fault};
-ghost use Rattle.braid_moves.specs.Carried.{carried};
+ghost use Rattle.braid_moves.specs.Fault.{first_step_fault};
+ghost use Rattle.braid_moves.specs.Carried.{carried_tuple};
 
 use crate::step::BraidMove;
 use arrayvec::ArrayVec;
@@ -23,9 +23,9 @@ pub fn carry_tuple(
     quandle: &Quandle,
     tuple: &[u8],
 ) -> ArrayVec<u8, MAX_STRANDS>
-    requires legal { first_fault braid.now step ≡ None }
+    requires legal { first_step_fault braid.now step ≡ None }
     requires point { IsFixedPoint quandle.now braid.now tuple.now }
-    ensures carried { result.items ≡ carried quandle.now braid.now step tuple.now }
+    ensures carried { result.items ≡ carried_tuple quandle.now braid.now step tuple.now }
     ensures point { IsFixedPoint quandle.now (moved braid.now step) result.items }
 {
     let _order = quandle.order();
@@ -40,9 +40,9 @@ fn carried(
     quandle: &Quandle,
     tuple: &[u8],
 ) -> ArrayVec<u8, MAX_STRANDS>
-    requires legal { first_fault braid.now step ≡ None }
+    requires legal { first_step_fault braid.now step ≡ None }
     requires tuple { IsTuple quandle.now braid.now.strands tuple.now }
-    ensures { result.items ≡ carried quandle.now braid.now step tuple.now }
+    ensures { result.items ≡ carried_tuple quandle.now braid.now step tuple.now }
 {
     let _order = quandle.order();
     let strands = braid.strands() as usize;

@@ -1,7 +1,7 @@
 //! The first reason why a step is not legal on a braid.
 ghost use Rattle.std.specs.Prelude.{◌≡◌, ◌==◌, Bool, not, unsigned_abs};
 ghost use Rattle.std.specs.List.{list_all};
-ghost use Rattle.braid_moves.specs.Fault.{are_far, is_negative, are_triple, may_shrink, first_fault};
+ghost use Rattle.braid_moves.specs.Fault.{are_far, is_negative, are_triple, may_shrink, first_step_fault};
 ghost use Rattle.braid_moves.specs.declared.step.BraidMove.TheVariants as kind;
 
 use crate::step::{BraidMove, BraidMoveFault};
@@ -10,7 +10,7 @@ use grid_core::MAX_SIZE;
 
 /// The first reason why a step is not legal on a braid, if there is one.
 pub(crate) fn fault_of(braid: &Braid, step: BraidMove) -> Option<BraidMoveFault>
-    ensures { result ≡ first_fault braid.now step }
+    ensures { result ≡ first_step_fault braid.now step }
 {
     match step {
         BraidMove::Far(p) => far_fault(braid, p),
@@ -25,7 +25,7 @@ pub(crate) fn fault_of(braid: &Braid, step: BraidMove) -> Option<BraidMoveFault>
 
 /// Of letters p and p + 1 that are to trade places.
 fn far_fault(braid: &Braid, p: u8) -> Option<BraidMoveFault>
-    ensures { result ≡ first_fault braid.now (kind.Far p) }
+    ensures { result ≡ first_step_fault braid.now (kind.Far p) }
 {
     let letters = braid.letters();
     let place = p as usize;
@@ -40,7 +40,7 @@ fn far_fault(braid: &Braid, p: u8) -> Option<BraidMoveFault>
 
 /// Of letters p to p + 2 that are to become their mirrored three.
 fn triple_fault(braid: &Braid, p: u8) -> Option<BraidMoveFault>
-    ensures { result ≡ first_fault braid.now (kind.Triple p) }
+    ensures { result ≡ first_step_fault braid.now (kind.Triple p) }
 {
     let letters = braid.letters();
     let place = p as usize;
@@ -55,7 +55,7 @@ fn triple_fault(braid: &Braid, p: u8) -> Option<BraidMoveFault>
 
 /// Of letters p and p + 1 that are to go.
 fn cancel_fault(braid: &Braid, p: u8) -> Option<BraidMoveFault>
-    ensures { result ≡ first_fault braid.now (kind.Cancel p) }
+    ensures { result ≡ first_step_fault braid.now (kind.Cancel p) }
 {
     let letters = braid.letters();
     let place = p as usize;
@@ -70,7 +70,7 @@ fn cancel_fault(braid: &Braid, p: u8) -> Option<BraidMoveFault>
 
 /// Of a letter and its negative that are to be put in.
 fn insert_fault(braid: &Braid, place: u8, letter: i8) -> Option<BraidMoveFault>
-    ensures { result ≡ first_fault braid.now (kind.Insert place letter) }
+    ensures { result ≡ first_step_fault braid.now (kind.Insert place letter) }
 {
     let count = braid.letters().len();
     let strands = braid.strands();
@@ -86,7 +86,7 @@ fn insert_fault(braid: &Braid, place: u8, letter: i8) -> Option<BraidMoveFault>
 
 /// Of the first k letters that are to go to the end.
 fn turn_fault(braid: &Braid, k: u8) -> Option<BraidMoveFault>
-    ensures { result ≡ first_fault braid.now (kind.Turn k) }
+    ensures { result ≡ first_step_fault braid.now (kind.Turn k) }
 {
     if k == 0 || k as usize >= braid.letters().len() {
         return Some(BraidMoveFault::Range);
@@ -96,7 +96,7 @@ fn turn_fault(braid: &Braid, k: u8) -> Option<BraidMoveFault>
 
 /// Of a strand and a letter more.
 fn grow_fault(braid: &Braid) -> Option<BraidMoveFault>
-    ensures { (positive : Bool) → result ≡ first_fault braid.now (kind.Grow positive) }
+    ensures { (positive : Bool) → result ≡ first_step_fault braid.now (kind.Grow positive) }
 {
     let strands = braid.strands() as usize;
     if strands >= MAX_STRANDS || braid.letters().len() + 3 + 2 * strands > MAX_SIZE {
@@ -107,7 +107,7 @@ fn grow_fault(braid: &Braid) -> Option<BraidMoveFault>
 
 /// Of the last strand and letter that are to go.
 fn shrink_fault(braid: &Braid) -> Option<BraidMoveFault>
-    ensures { result ≡ first_fault braid.now kind.Shrink }
+    ensures { result ≡ first_step_fault braid.now kind.Shrink }
 {
     if may_shrink(braid) {
         None

@@ -5,8 +5,8 @@ ghost use Rattle.quandle_core.specs.Bijection.{IsBijection};
 ghost use Rattle.braid_core.specs.Braid.{Word, IsBraid};
 ghost use Rattle.braid_core.specs.FixedPoints.{fixed_points, IsFixedPoint};
 ghost use Rattle.braid_moves.specs.Step.{moved};
-ghost use Rattle.braid_moves.specs.Fault.{first_fault};
-ghost use Rattle.braid_moves.specs.Carried.{carried};
+ghost use Rattle.braid_moves.specs.Fault.{first_step_fault};
+ghost use Rattle.braid_moves.specs.Carried.{carried_tuple};
 ghost use Rattle.braid_moves.specs.Ruling.{ruling};
 ghost use Rattle.braid_moves.specs.declared.step.BraidMove.{BraidMove};
 ghost use Rattle.braid_moves.specs.declared.step.BraidMoveFault.TheVariants.{OutOfMemory};
@@ -16,19 +16,19 @@ use crate::ruling::BraidRuling;
 
 /// A legal step leads from a braid to a braid.
 pub fn a_legal_step_leads_to_a_braid()
-    ensures { (w : Word) → IsBraid w → (step : BraidMove) → first_fault w step ≡ None → IsBraid (moved w step) }
+    ensures { (w : Word) → IsBraid w → (step : BraidMove) → first_step_fault w step ≡ None → IsBraid (moved w step) }
 {}
 
 /// No step's first fault is want of memory, so no ruling names it.
 pub fn a_fault_is_never_want_of_memory()
-    ensures step { (w : Word) (step : BraidMove) → first_fault w step ≡ Some OutOfMemory → ⊥ }
+    ensures step { (w : Word) (step : BraidMove) → first_step_fault w step ≡ Some OutOfMemory → ⊥ }
     ensures ruling { (v w : Word) (steps : List BraidMove) (place : ℕ) → ruling v w steps ≡ BraidRuling.Step place OutOfMemory → ⊥ }
 {}
 
 /// A legal step carries the fixed points of the old braid's action one to one to those of the new braid's, for every quandle.
 pub fn a_legal_step_carries_the_fixed_points()
-    ensures { (t : Table) → IsQuandle t → (w : Word) → IsBraid w → (step : BraidMove) → first_fault w step ≡ None
-        → IsBijection (IsFixedPoint t w) (IsFixedPoint t (moved w step)) (carried t w step) }
+    ensures { (t : Table) → IsQuandle t → (w : Word) → IsBraid w → (step : BraidMove) → first_step_fault w step ≡ None
+        → IsBijection (IsFixedPoint t w) (IsFixedPoint t (moved w step)) (carried_tuple t w step) }
 {}
 
 /// Where a list of steps is accepted, both braids have equally many fixed points, for every quandle.

@@ -2,7 +2,7 @@
 ghost use Rattle.std.specs.Prelude.{◌≡◌, ◌≤◌, ◌+◌, ◌++◌, None, length, take, drop};
 ghost use Rattle.braid_core.specs.Braid.{IsBraid};
 ghost use Rattle.braid_moves.specs.Step.{moved};
-ghost use Rattle.braid_moves.specs.Fault.{first_fault};
+ghost use Rattle.braid_moves.specs.Fault.{first_step_fault};
 ghost use Rattle.braid_moves.specs.declared.step.BraidMove.TheVariants as kind;
 
 use crate::step::BraidMove;
@@ -15,7 +15,7 @@ pub(crate) type Letters = ArrayVec<i8, MAX_SIZE>;
 
 /// The letters of a braid after a legal step. Takes no memory.
 pub(crate) fn letters_after(braid: &Braid, step: BraidMove) -> Letters
-    requires legal { first_fault braid.now step ≡ None }
+    requires legal { first_step_fault braid.now step ≡ None }
     ensures { result.items ≡ (moved braid.now step).letters }
 {
     match step {
@@ -31,7 +31,7 @@ pub(crate) fn letters_after(braid: &Braid, step: BraidMove) -> Letters
 
 /// The number of strands of a braid after a legal step.
 pub(crate) fn strands_after(braid: &Braid, step: BraidMove) -> u8
-    requires legal { first_fault braid.now step ≡ None }
+    requires legal { first_step_fault braid.now step ≡ None }
     ensures { result ≡ (moved braid.now step).strands }
 {
     let strands = braid.strands();
@@ -59,7 +59,7 @@ fn append(out: &mut Letters, letters: &[i8], from: usize, count: usize)
 }
 
 fn after_far(braid: &Braid, p: usize) -> Letters
-    requires { first_fault braid.now (kind.Far p) ≡ None }
+    requires { first_step_fault braid.now (kind.Far p) ≡ None }
     ensures { result.items ≡ (moved braid.now (kind.Far p)).letters }
 {
     let letters = braid.letters();
@@ -72,7 +72,7 @@ fn after_far(braid: &Braid, p: usize) -> Letters
 }
 
 fn after_triple(braid: &Braid, p: usize) -> Letters
-    requires { first_fault braid.now (kind.Triple p) ≡ None }
+    requires { first_step_fault braid.now (kind.Triple p) ≡ None }
     ensures { result.items ≡ (moved braid.now (kind.Triple p)).letters }
 {
     let letters = braid.letters();
@@ -86,7 +86,7 @@ fn after_triple(braid: &Braid, p: usize) -> Letters
 }
 
 fn after_cancel(braid: &Braid, p: usize) -> Letters
-    requires { first_fault braid.now (kind.Cancel p) ≡ None }
+    requires { first_step_fault braid.now (kind.Cancel p) ≡ None }
     ensures { result.items ≡ (moved braid.now (kind.Cancel p)).letters }
 {
     let letters = braid.letters();
@@ -97,7 +97,7 @@ fn after_cancel(braid: &Braid, p: usize) -> Letters
 }
 
 fn after_insert(braid: &Braid, place: usize, letter: i8) -> Letters
-    requires { first_fault braid.now (kind.Insert place letter) ≡ None }
+    requires { first_step_fault braid.now (kind.Insert place letter) ≡ None }
     ensures { result.items ≡ (moved braid.now (kind.Insert place letter)).letters }
 {
     let letters = braid.letters();
@@ -110,7 +110,7 @@ fn after_insert(braid: &Braid, place: usize, letter: i8) -> Letters
 }
 
 fn after_turn(braid: &Braid, k: usize) -> Letters
-    requires { first_fault braid.now (kind.Turn k) ≡ None }
+    requires { first_step_fault braid.now (kind.Turn k) ≡ None }
     ensures { result.items ≡ (moved braid.now (kind.Turn k)).letters }
 {
     let letters = braid.letters();
@@ -121,7 +121,7 @@ fn after_turn(braid: &Braid, k: usize) -> Letters
 }
 
 fn after_grow(braid: &Braid, positive: bool) -> Letters
-    requires { first_fault braid.now (kind.Grow positive) ≡ None }
+    requires { first_step_fault braid.now (kind.Grow positive) ≡ None }
     ensures { result.items ≡ (moved braid.now (kind.Grow positive)).letters }
 {
     let letters = braid.letters();
@@ -133,7 +133,7 @@ fn after_grow(braid: &Braid, positive: bool) -> Letters
 }
 
 fn after_shrink(braid: &Braid) -> Letters
-    requires { first_fault braid.now kind.Shrink ≡ None }
+    requires { first_step_fault braid.now kind.Shrink ≡ None }
     ensures { result.items ≡ (moved braid.now kind.Shrink).letters }
 {
     let letters = braid.letters();

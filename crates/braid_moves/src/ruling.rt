@@ -1,6 +1,6 @@
 //! The ruling on a list of steps between two braids.
 ghost use Rattle.std.specs.Prelude.{◌≡◌, IfOk};
-ghost use Rattle.braid_moves.specs.Ruling.{are_same, ruling};
+ghost use Rattle.braid_moves.specs.Ruling.{are_same_words, ruling};
 
 use crate::applying::apply_braid;
 use crate::step::{BraidMove, BraidMoveFault};
@@ -57,7 +57,7 @@ fn copy_of(alloc: Global, braid: &Braid) -> Result<Braid, OutOfMemory>
 
 /// Whether two braids have as many strands and the same letters.
 fn are_same(first: &Braid, second: &Braid) -> bool
-    ensures { result ≡ are_same first.now second.now }
+    ensures { result ≡ are_same_words first.now second.now }
 {
     first.strands() == second.strands() && first.letters() == second.letters()
 }

@@ -49,8 +49,8 @@ cause_of_lists t d e one two =
     or_else (wide 1 t d) (or_else (wide 2 t e) (or_else (list_differs 1 t d one) (or_else (list_differs 2 t e two) (same_length one two))))
 
 -- the first cause for which the evidence of a verdict on d and e does not hold
-abbrev pub IsCause : Diagram → Diagram → Verdict → Why → Type 0
-IsCause d e (Equal moves) cause = IsCauseOfMoves d e moves cause
-IsCause d e (Different listed one two) cause = cause_of_lists listed.table d e (lists_of one) (lists_of two) ≡ Some cause
-IsCause d e (UnknownBudget budget) cause = cause ≡ why.NoEvidence
-IsCause d e (UnknownExhausted cap admitted) cause = cause ≡ why.NoEvidence
+abbrev pub IsVerdictCause : Diagram → Diagram → Verdict → Why → Type 0
+IsVerdictCause d e (Equal moves) cause = IsCauseOfMoves d e moves cause
+IsVerdictCause d e (Different listed one two) cause = cause_of_lists listed.table d e (lists_of one) (lists_of two) ≡ Some cause
+IsVerdictCause d e (UnknownBudget budget) cause = cause ≡ why.NoEvidence
+IsVerdictCause d e (UnknownExhausted cap admitted) cause = cause ≡ why.NoEvidence

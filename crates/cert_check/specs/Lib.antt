@@ -1,6 +1,6 @@
 pub mod Cause
 pub mod Ruling
-pub mod Truth
+pub mod VerdictTruth
 pub use Rattle.grid_core.specs.Diagram
 pub use Rattle.grid_core.specs.Parts
 pub use Rattle.grid_moves.specs.Joining

@@ -5,7 +5,7 @@ ghost use Rattle.colour_list.specs.Fits.{fits};
 ghost use Rattle.colour_list.specs.Listing.{colourings, lists_of};
 ghost use Rattle.verdict_core.specs.Evidence.{Claims};
 ghost use Rattle.cert_check.specs.Cause.{cause_of_lists, first_difference};
-ghost use Rattle.cert_check.specs.Ruling.{RulesOn};
+ghost use Rattle.cert_check.specs.Ruling.{RulesOnVerdict};
 
 use crate::ruling::{Ruling, Why};
 use colour_list::{fits, list_fitting};
@@ -25,7 +25,7 @@ pub(crate) fn check_lists(
     one: &[Colouring],
     two: &[Colouring],
 ) -> Result<Ruling, OutOfMemory>
-    ensures ruling { IfOk result (λ r. RulesOn first.now second.now (Verdict.Different listed.now one.now two.now) r) }
+    ensures ruling { IfOk result (λ r. RulesOnVerdict first.now second.now (Verdict.Different listed.now one.now two.now) r) }
     ensures claim { IfOk result (λ r. r ≡ Ruling.Accepted → Claims first.now second.now (Verdict.Different listed.now one.now two.now)) }
 {
     let quandle = listed.quandle();

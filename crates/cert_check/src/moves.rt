@@ -1,7 +1,7 @@
 //! The ruling on a list of moves.
 ghost use Rattle.std.specs.Prelude.{◌≡◌, ◌↔◌};
 ghost use Rattle.grid_moves.specs.Joining.{Joins};
-ghost use Rattle.cert_check.specs.Ruling.{RulesOn};
+ghost use Rattle.cert_check.specs.Ruling.{RulesOnVerdict};
 
 use crate::ruling::{Ruling, Why};
 use grid_core::Grid;
@@ -12,7 +12,7 @@ use verdict_core::Verdict;
 /// Else rejected, for the first move that is not legal where it is made, or, where all are legal,
 /// for the other diagram that they lead to. It takes no memory, and one pass over the moves.
 pub fn check_moves(first: &Grid, second: &Grid, moves: &[Move]) -> Ruling
-    ensures ruling { RulesOn first.now second.now (Verdict.Equal moves.now) result }
+    ensures ruling { RulesOnVerdict first.now second.now (Verdict.Equal moves.now) result }
     ensures accepted { (result ≡ Ruling.Accepted) ↔ Joins first.now moves.now second.now }
 {
     match apply_all(first, moves) {

@@ -1,8 +1,8 @@
 //! The ruling on a verdict.
 ghost use Rattle.std.specs.Prelude.{◌≡◌, ◌↔◌, IfOk, IsErr};
 ghost use Rattle.verdict_core.specs.Diagrams.{grid_of};
-ghost use Rattle.verdict_core.specs.Evidence.{Holds, Claims, HasLists};
-ghost use Rattle.cert_check.specs.Ruling.{RulesOn};
+ghost use Rattle.verdict_core.specs.Evidence.{VerdictHolds, Claims, HasLists};
+ghost use Rattle.cert_check.specs.Ruling.{RulesOnVerdict};
 
 use crate::lists::check_lists;
 use crate::moves::check_moves;
@@ -19,8 +19,8 @@ use verdict_core::{ProblemText, Verdict};
 ///
 /// Memory is wanted for lists of colourings alone, for the complete list of one diagram at a time.
 pub fn check(alloc: Global, problem: &ProblemText, verdict: &Verdict) -> Result<Ruling, OutOfMemory>
-    ensures ruling { IfOk result (λ r. RulesOn (grid_of problem.now.first) (grid_of problem.now.second) verdict.now r) }
-    ensures accepted { IfOk result (λ r. (r ≡ Ruling.Accepted) ↔ Holds (grid_of problem.now.first) (grid_of problem.now.second) verdict.now) }
+    ensures ruling { IfOk result (λ r. RulesOnVerdict (grid_of problem.now.first) (grid_of problem.now.second) verdict.now r) }
+    ensures accepted { IfOk result (λ r. (r ≡ Ruling.Accepted) ↔ VerdictHolds (grid_of problem.now.first) (grid_of problem.now.second) verdict.now) }
     ensures claim { IfOk result (λ r. r ≡ Ruling.Accepted → Claims (grid_of problem.now.first) (grid_of problem.now.second) verdict.now) }
     ensures memory { IsErr result → HasLists verdict.now }
 {

@@ -27,7 +27,7 @@ use Rattle.evidence_core.specs.declared.evidence.Evidence.{Evidence}
 use Rattle.evidence_core.specs.declared.evidence.Evidence.TheVariants.{Numbers, Linking}
 use Rattle.number_text.specs.Blocks.{block_quandle, block_item, surplus_block, blocks}
 use Rattle.number_text.specs.BlockCocycles.{cocycle_or_none}
-use Rattle.number_text.specs.Evidence.{count_of, counted_item, numbers_evidence, linked_item, linking_evidence, evidence_at, head_at, third_item}
+use Rattle.number_text.specs.Evidence.{count_of, seeded_numbers_item, numbers_evidence, linked_item, linking_evidence, evidence_at, head_at, third_item}
 use Rattle.number_text.specs.declared.said.Said.{Said}
 use Rattle.number_text.specs.declared.said.Said.TheVariants as said
 use Rattle.number_text.specs.Said.{has_third, third_in, third_of, with_verdict, said_of}
@@ -90,8 +90,8 @@ numbers_say : (line : NumberedLine) (text : Text) → Says (numbers_evidence lin
 unfolding numbers_evidence
 numbers_say line text = says_bind (IsQuandleAt MAX_LARGE_ORDER line.tokens text) (quandle_at_says MAX_LARGE_ORDER (omega arith) line text) (λ q named.
     says_bind (λ x. HasPerhapsText q.0.table x.0) (perhaps_says q.0.table q.1 (named_within MAX_LARGE_ORDER q.0.name q.0.table named.text.names)) (λ w cocycle.
-    says_bind (λ x. Unit {0}) (anything (counted_item (count_of w.0) w.1)) (λ first one.
-    says_bind (λ x. Unit {0}) (anything (counted_item (count_of w.0) first.1)) (λ second two.
+    says_bind (λ x. Unit {0}) (anything (seeded_numbers_item (count_of w.0) w.1)) (λ first one.
+    says_bind (λ x. Unit {0}) (anything (seeded_numbers_item (count_of w.0) first.1)) (λ second two.
     says_ok (Numbers (record { listed = q.0; cocycle = w.0 }) first.0 second.0, second.1) (record { listed = named.text; cocycle = cocycle })))))
 
 linking_says : (line : NumberedLine) (text : Text) → Says (linking_evidence line text) (λ x. HasBlock x.0)

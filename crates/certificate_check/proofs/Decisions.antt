@@ -8,7 +8,7 @@ use Rattle.text_lines.specs.Lines.{are_whole_lines, text_of}
 use Rattle.verdict_core.specs.declared.problem.ProblemText.{ProblemText}
 use Rattle.verdict_core.specs.declared.verdict.Verdict.{Verdict}
 use Rattle.verdict_core.specs.declared.verdict.Verdict.TheVariants.{Equal, Different, UnknownBudget, UnknownExhausted}
-use Rattle.verdict_core.specs.Diagrams.{grid_of, columns}
+use Rattle.verdict_core.specs.Diagrams.{grid_of, column_count}
 use Rattle.verdict_core.specs.Evidence as verdict
 use Rattle.quandle_core.proofs.Named.{named_within}
 use Rattle.verdict_text.specs.declared.verdicts.Version.{Version}
@@ -29,10 +29,10 @@ use Rattle.certificates.specs.Printed.{third_text, HasPerhapsText, HasEvidenceTe
 use Rattle.certificates.specs.Said.{said_text}
 use Rattle.certificates.proofs.Earlier.{read_so, was_read_so}
 use Rattle.certificates.proofs.EvidenceBehind.{evidence_behind, evidence_behind_feed}
-use Rattle.number_check.specs.Holds as numbers
+use Rattle.number_check.specs.EvidenceHolds as numbers
 use Rattle.number_check.proofs.Rulings.{numbers_apart}
 use Rattle.evidence_core.proofs.LinksOfGrids.{linking_apart}
-use Rattle.check_job.specs.Truth.{IsTrueSaid}
+use Rattle.check_job.specs.CertificateTruth.{IsTrueSaid}
 use Rattle.verdict_laws.specs.VerdictDecision.{put_behind, IsByWrittenQuandle, IsDecisionByVerdict}
 use Rattle.verdict_laws.proofs.HeldVerdicts.{true_of}
 use Rattle.certificate_check.specs.Decision.{IsFindingOf, IsAccepted, IsDecision}
@@ -45,7 +45,7 @@ cocycle_or_none t None has = tt
 cocycle_or_none t (Some (Strands w)) has = has.cocycle
 cocycle_or_none t (Some (Regions s)) has = has.cocycle
 
-held_apart : (d e : Diagram) (evidence : Evidence) → HasBlock evidence → numbers.Holds d e evidence → Equivalent d e → ⊥
+held_apart : (d e : Diagram) (evidence : Evidence) → HasBlock evidence → numbers.EvidenceHolds d e evidence → Equivalent d e → ⊥
 held_apart d e (Numbers b one two) has holds =
     numbers_apart d e b one two (named_within MAX_LARGE_ORDER b.listed.name b.listed.table has.listed.names)
     (cocycle_or_none b.listed.table b.cocycle has.cocycle) holds
@@ -63,7 +63,7 @@ by_lines bytes p evidence true whole is text = evidence_behind bytes p evidence 
 by_lines bytes p evidence false lacks is text = evidence_behind_feed bytes p evidence lacks is text
 
 held_evidence : (bytes : List ℕ) (p : ProblemText) (evidence : Evidence) → problem_of bytes ≡ Ok p
-    → numbers.Holds (grid_of p.first) (grid_of p.second) evidence → HasEvidenceText evidence → IsDecision bytes (third_text evidence)
+    → numbers.EvidenceHolds (grid_of p.first) (grid_of p.second) evidence → HasEvidenceText evidence → IsDecision bytes (third_text evidence)
 held_evidence bytes p evidence read holds text = record {
   problem = p;
   read = read;
@@ -90,7 +90,7 @@ decision_by_verdict bytes text d = record {
 }
 
 -- by the law that a verdict that holds is a decision
-pub held_decision : ((bytes : List ℕ) (p : ProblemText) (v : Verdict) → problem_of bytes ≡ Ok p → verdict.Holds (grid_of p.first) (grid_of p.second) v
+pub held_decision : ((bytes : List ℕ) (p : ProblemText) (v : Verdict) → problem_of bytes ≡ Ok p → verdict.VerdictHolds (grid_of p.first) (grid_of p.second) v
     → IsByWrittenQuandle v → verdict.IsTidyVerdict v → IsDecisionByVerdict bytes (version_text Tidy v))
     → (bytes : List ℕ) (p : ProblemText) (x : Said) → problem_of bytes ≡ Ok p → IsFindingOf p x → IsDecision bytes (said_text x)
 held_decision verdicts bytes p (said.Verdict v) read finding =
@@ -117,8 +117,8 @@ by_quandle one two (UnknownExhausted cap admitted) has = tt
 pub accepted_true : (bytes : List ℕ) (p : ProblemText) (x : Said) → IsAccepted bytes p x → IsTrueSaid p x
 accepted_true bytes p (said.Verdict v) accepted =
     let text = (check_in_says (text_of bytes)).of (p, v) (was_read_so bytes p v accepted.read) in
-    let one = columns p.first in
-    let two = columns p.second in
+    let one = column_count p.first in
+    let two = column_count p.second in
     let version : Version = text.2.0 in
     true_of (grid_of p.first) (grid_of p.second) v (by_quandle one two v (of_version version one two v text.2.1)) accepted.rules
 accepted_true bytes p (said.Evidence evidence) accepted =

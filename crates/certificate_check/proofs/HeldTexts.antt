@@ -33,7 +33,7 @@ use Rattle.evidence_core.specs.declared.evidence.Evidence.{Evidence}
 use Rattle.evidence_core.specs.declared.evidence.Evidence.TheVariants.{Numbers, Linking}
 use Rattle.number_text.specs.Evidence.{count_of}
 use Rattle.certificates.specs.Printed.{HasPerhapsText, HasBlockText, HasCountedText, HasLinkedText, HasEvidenceText}
-use Rattle.number_check.specs.Holds.{table_of, AreNumbersOf, Holds}
+use Rattle.number_check.specs.EvidenceHolds.{table_by_block, AreNumbersOf, EvidenceHolds}
 use Rattle.evidence_core.specs.Links.{AreLinkingOf}
 use Rattle.verdict_laws.proofs.SeedWays.{plan_there}
 use Rattle.certificate_check.specs.Decision.{IsByWrittenBlock}
@@ -127,7 +127,7 @@ each_below n [] fits all = tt
 each_below n (x ∷ xs) fits all = (omega (arith, all.0, fits), each_below n xs fits all.1)
 
 -- the quandle that gives the colours is one
-colours_quandle : (b : Block) → HasBlockText b → IsQuandle (table_of b)
+colours_quandle : (b : Block) → HasBlockText b → IsQuandle (table_by_block b)
 colours_quandle b has = by b.cocycle has.cocycle
   where
     by : (o : Option LargeWeighing) → HasPerhapsText b.listed.table o → IsQuandle (coloured_by b.listed.table o)
@@ -138,8 +138,8 @@ colours_quandle b has = by b.cocycle has.cocycle
 counted_text : (b : Block) (d : Diagram) (c : Counted) → IsGrid d → HasBlockText b → AreNumbersOf b d c → length c.seeds.items ≤ MAX_SIZE
     → HasCountedText (count_of b.cocycle) c
 counted_text b d c grid has are short =
-    let most = colourings_few (table_of b) d c.seeds.items (colours_quandle b has) grid are.settled in
-    let within = pairs_few b.listed.table b.cocycle (length (colourings (table_of b) d)) (length c.seeds.items) most are.few in
+    let most = colourings_few (table_by_block b) d c.seeds.items (colours_quandle b has) grid are.settled in
+    let within = pairs_few b.listed.table b.cocycle (length (colourings (table_by_block b) d)) (length c.seeds.items) most are.few in
     let few = subst (AreFew (count_of b.cocycle) MAX_NUMBER) (sym are.own) (numbers_few b.listed.table b.cocycle d MAX_NUMBER within) in
     record {
       few = short;
@@ -166,7 +166,7 @@ linked_text d l grid are =
 
 -- ---- either
 
-pub held_text : (d e : Diagram) (evidence : Evidence) → IsGrid d → IsGrid e → Holds d e evidence → IsByWrittenBlock evidence → HasEvidenceText evidence
+pub held_text : (d e : Diagram) (evidence : Evidence) → IsGrid d → IsGrid e → EvidenceHolds d e evidence → IsByWrittenBlock evidence → HasEvidenceText evidence
 held_text d e (Numbers b one two) first second holds written = (
   written.0,
   counted_text b d one first written.0 holds.first written.1,

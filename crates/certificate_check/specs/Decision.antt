@@ -10,15 +10,15 @@ use Rattle.evidence_core.specs.declared.evidence.Evidence.{Evidence}
 use Rattle.evidence_core.specs.declared.evidence.Evidence.TheVariants.{Numbers, Linking}
 use Rattle.cert_check.specs.Ruling as verdicts
 use Rattle.cert_check.specs.declared.ruling.Ruling.TheVariants as verdict_ruling
-use Rattle.number_check.specs.Holds as numbers
+use Rattle.number_check.specs.EvidenceHolds as numbers
 use Rattle.number_check.specs.Ruling as evidence
-use Rattle.evidence_core.specs.declared.cause.Ruling.TheVariants as evidence_ruling
+use Rattle.evidence_core.specs.declared.cause.NumberRuling.TheVariants as evidence_ruling
 use Rattle.number_text.specs.declared.said.Said.{Said}
 use Rattle.number_text.specs.declared.said.Said.TheVariants as said
 use Rattle.number_text.specs.Said.{said_of}
 use Rattle.certificates.specs.Printed.{HasBlockText, HasEvidenceText}
 use Rattle.certificates.specs.Said.{said_text}
-use Rattle.check_job.specs.Truth.{IsTrueSaid}
+use Rattle.check_job.specs.CertificateTruth.{IsTrueSaid}
 use Rattle.knot_ports.specs.declared.limits.TheConstants.{MAX_CERTIFICATE}
 use Rattle.verdict_laws.specs.VerdictDecision.{put_behind, IsByWrittenQuandle}
 
@@ -26,18 +26,18 @@ use Rattle.verdict_laws.specs.VerdictDecision.{put_behind, IsByWrittenQuandle}
 
 -- what is said of the diagrams of a problem holds: the evidence of a verdict, or evidence by numbers
 abbrev pub HoldsOf : ProblemText → Said → Type 0
-HoldsOf p (said.Verdict v) = verdict.Holds (grid_of p.first) (grid_of p.second) v
-HoldsOf p (said.Evidence x) = numbers.Holds (grid_of p.first) (grid_of p.second) x
+HoldsOf p (said.Verdict v) = verdict.VerdictHolds (grid_of p.first) (grid_of p.second) v
+HoldsOf p (said.Evidence x) = numbers.EvidenceHolds (grid_of p.first) (grid_of p.second) x
 
 -- a verdict holds of the diagrams of a problem, its moves, if any, are a tidy list, and its quandle, if it is by one, has a text
 pub record IsVerdictOf (p : ProblemText) (v : Verdict) : Type 0 where
-  pub holds : verdict.Holds (grid_of p.first) (grid_of p.second) v
+  pub holds : verdict.VerdictHolds (grid_of p.first) (grid_of p.second) v
   pub written : IsByWrittenQuandle v
   pub tidy : verdict.IsTidyVerdict v
 
 -- evidence by numbers holds of the diagrams of a problem, and has a text
 pub record IsEvidenceOf (p : ProblemText) (x : Evidence) : Type 0 where
-  pub holds : numbers.Holds (grid_of p.first) (grid_of p.second) x
+  pub holds : numbers.EvidenceHolds (grid_of p.first) (grid_of p.second) x
   pub written : HasEvidenceText x
 
 -- what is said of the diagrams of a problem is one of both, whoever found it
@@ -54,8 +54,8 @@ IsByWrittenBlock (Linking one two) = Unit {0}
 
 -- the ruling on what is said of the diagrams of a problem is that it is accepted
 abbrev pub RulesAccepted : ProblemText → Said → Type 0
-RulesAccepted p (said.Verdict v) = verdicts.RulesOn (grid_of p.first) (grid_of p.second) v verdict_ruling.Accepted
-RulesAccepted p (said.Evidence x) = evidence.RulesOn (grid_of p.first) (grid_of p.second) x evidence_ruling.Accepted
+RulesAccepted p (said.Verdict v) = verdicts.RulesOnVerdict (grid_of p.first) (grid_of p.second) v verdict_ruling.Accepted
+RulesAccepted p (said.Evidence x) = evidence.RulesOnNumbers (grid_of p.first) (grid_of p.second) x evidence_ruling.Accepted
 
 -- the bytes are read as a certificate of this problem in which this is said, and the ruling on it is that it is accepted
 pub record IsAccepted (bytes : List ℕ) (problem : ProblemText) (x : Said) : Type 0 where

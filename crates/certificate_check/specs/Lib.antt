@@ -7,7 +7,7 @@ pub use Rattle.number_text.specs.BlockCocycles
 pub use Rattle.number_text.specs.Said
 pub use Rattle.certificates.specs.Printed
 pub use Rattle.certificates.specs.Said as SaidTexts
-pub use Rattle.number_check.specs.Holds
+pub use Rattle.number_check.specs.EvidenceHolds
 pub use Rattle.number_check.specs.Ruling
-pub use Rattle.check_job.specs.Truth
+pub use Rattle.check_job.specs.CertificateTruth
 pub use Rattle.verdict_laws.specs.VerdictDecision

@@ -12,8 +12,8 @@ ghost use Rattle.number_text.specs.Blocks.{block_item, blocks};
 ghost use Rattle.number_text.specs.declared.said.Said.{Said};
 ghost use Rattle.certificates.specs.Printed.{HasBlockText, HasEvidenceText};
 ghost use Rattle.certificates.specs.Said.{said_text};
-ghost use Rattle.number_check.specs.Holds.{Holds};
-ghost use Rattle.check_job.specs.Truth.{IsTrueSaid};
+ghost use Rattle.number_check.specs.EvidenceHolds.{EvidenceHolds};
+ghost use Rattle.check_job.specs.CertificateTruth.{IsTrueSaid};
 ghost use Rattle.verdict_laws.specs.VerdictDecision.{IsDecisionByVerdict};
 ghost use Rattle.certificate_check.specs.Decision.{IsFindingOf, IsByWrittenBlock, IsAccepted, IsDecision};
 
@@ -32,7 +32,7 @@ pub fn what_holds_is_a_decision()
 /// Evidence that holds has a text, if its quandle and its cocycle have texts, and its seeds are not too many for a line: its numbers are
 /// never too large.
 pub fn evidence_that_holds_has_a_text()
-    ensures { (d e : Diagram) (evidence : Evidence) → IsGrid d → IsGrid e → Holds d e evidence → IsByWrittenBlock evidence
+    ensures { (d e : Diagram) (evidence : Evidence) → IsGrid d → IsGrid e → EvidenceHolds d e evidence → IsByWrittenBlock evidence
         → HasEvidenceText evidence }
 {}
 

@@ -7,7 +7,7 @@ use Rattle.text_lines.specs.Lines.{NumberedLine, Text, text_of}
 use Rattle.text_items.specs.declared.fault.TextFault.{TextFault}
 use Rattle.text_items.specs.declared.fault.TextFault.TheVariants.{Malformed}
 use Rattle.text_items.specs.Reading.{◌>>=◌, next_line, next_token, number, line_end, last_number, last_count, word, text_end}
-use Rattle.verdict_core.specs.Diagrams.{columns}
+use Rattle.verdict_core.specs.Diagrams.{column_count}
 use Rattle.verdict_core.specs.declared.problem.ProblemText.{ProblemText}
 use Rattle.verdict_core.specs.declared.verdict.Verdict.{Verdict}
 use Rattle.verdict_text.specs.Verdicts.{version_at, tidy_item, versioned_item, verdict_item}
@@ -56,17 +56,18 @@ third_fails one two text is x read = by text.lines refl is
 
 -- a text that has been read has no third version
 none_third : (r : Result (ProblemText × Text) TextFault) (p : ProblemText × Verdict)
-    → (r >>= λ problem. verdict_item (columns problem.0.first) (columns problem.0.second) problem.1 >>= λ verdict. text_end verdict.1
+    → (r >>= λ problem. verdict_item (column_count problem.0.first) (column_count problem.0.second) problem.1 >>= λ verdict. text_end verdict.1
     >>= λ end. Ok (problem.0, verdict.0)) ≡ Ok p
     → has_third r ≡ false
 none_third (Err e) p read = refl
-none_third (Ok problem) p read = by (starts_third problem.1.lines) refl (verdict_item (columns problem.0.first) (columns problem.0.second) problem.1) refl read
+none_third (Ok problem) p read =
+    by (starts_third problem.1.lines) refl (verdict_item (column_count problem.0.first) (column_count problem.0.second) problem.1) refl read
   where
     by : (t : Bool) → starts_third problem.1.lines ≡ t → (v : Result (Verdict × Text) TextFault)
-        → verdict_item (columns problem.0.first) (columns problem.0.second) problem.1 ≡ v
+        → verdict_item (column_count problem.0.first) (column_count problem.0.second) problem.1 ≡ v
         → (v >>= λ verdict. text_end verdict.1 >>= λ end. Ok (problem.0, verdict.0)) ≡ Ok p → starts_third problem.1.lines ≡ false
     by false is v v_is read = is
-    by true is (Ok x) v_is read = absurd (third_fails (columns problem.0.first) (columns problem.0.second) problem.1 is x v_is)
+    by true is (Ok x) v_is read = absurd (third_fails (column_count problem.0.first) (column_count problem.0.second) problem.1 is x v_is)
     by true is (Err e) v_is read = absurd cc
 
 check_has_none : (text : Text) (p : ProblemText × Verdict) → check_in text ≡ Ok p → has_third (problem_item text) ≡ false

@@ -12,7 +12,7 @@ use Rattle.text_lines.specs.Lines.{Text, begins}
 use Rattle.text_lines.specs.Spelled.{numbered}
 use Rattle.text_items.specs.declared.reading.TheConstants.{MAX_NUMBER}
 use Rattle.text_items.specs.Reading.{next_line, next_token, line_end, each_token}
-use Rattle.text_items.specs.Numbers.{numbers_behind}
+use Rattle.text_items.specs.NumberLines.{numbers_behind}
 use Rattle.text_items.specs.Kept.{low}
 use Rattle.text_items.specs.Braids.{letter_of, is_long_letter}
 use Rattle.knot_text.specs.Printed.{letter_token, name_tokens, table_lines}
@@ -35,7 +35,8 @@ use Rattle.evidence_core.specs.declared.evidence.Evidence.{Evidence}
 use Rattle.evidence_core.specs.declared.evidence.Evidence.TheVariants.{Numbers, Linking}
 use Rattle.number_text.specs.declared.evidence_items.TheConstants.{THIRD_VERSION}
 use Rattle.number_text.specs.BlockCocycles.{cocycle_or_none}
-use Rattle.number_text.specs.Evidence.{seeds_at, numbers_at, counted_item, count_of, numbers_evidence, components_at, letters_at, linked_item, linking_evidence, evidence_at, head_at, third_item}
+use Rattle.number_text.specs.Evidence.{seeds_at, numbers_line_at, seeded_numbers_item, count_of, numbers_evidence, components_at, letters_at, linked_item}
+use Rattle.number_text.specs.Evidence.{linking_evidence, evidence_at, head_at, third_item}
 use Rattle.certificates.specs.Printed.{perhaps_cocycle, counted_lines, linked_lines, third_lines, HasPerhapsText, HasCountedText, HasLinkedText, HasEvidenceText}
 
 -- ---- seeds and numbers
@@ -63,15 +64,15 @@ seeds_again n seeds few bytes =
     rw (word_again (codes "seeds") n (map decimal seeds.items), values_again n seeds.items short, size, none_long seeds.items short, lows_same seeds.items bytes) refl
 
 numbers_again : (due n : ℕ) (ks : List ℕ) → length ks ≡ due → AllByRecursion IsShort ks
-    → numbers_at due (line_of n (codes "numbers" ∷ map decimal ks)) ≡ Ok ks
-unfolding numbers_at
+    → numbers_line_at due (line_of n (codes "numbers" ∷ map decimal ks)) ≡ Ok ks
+unfolding numbers_line_at
 numbers_again due n ks many few =
     let same : (length ks == due) ≡ true = eq-eqb (length ks) due many in
     rw (word_again (codes "numbers") n (map decimal ks), values_again n ks few, none_long ks few, same) refl
 
 counted_again : (due n : ℕ) (c : Counted) (text : Text) → HasCountedText due c
-    → counted_item due (lines_before (numbered n (counted_lines c)) text) ≡ Ok (c, text)
-unfolding counted_item next_line
+    → seeded_numbers_item due (lines_before (numbered n (counted_lines c)) text) ≡ Ok (c, text)
+unfolding seeded_numbers_item next_line
 counted_again due n c text has =
     rw (seeds_again (n + 1) c.seeds has.few has.seeds, numbers_again due (n + 1 + 1) c.numbers has.many has.numbers) refl
 

@@ -7,14 +7,14 @@ use Rattle.cocycle_core.specs.Cocycle.{Cochain}
 use Rattle.quandle_core.specs.declared.operations.TheConstants.{MAX_LARGE_ORDER}
 use Rattle.text_lines.specs.Lines.{NumberedLine, Text, first_starts}
 use Rattle.quandle_core.specs.Names.{NamedQuandle}
-use Rattle.verdict_core.specs.Diagrams.{columns}
+use Rattle.verdict_core.specs.Diagrams.{column_count}
 use Rattle.verdict_core.specs.declared.problem.ProblemText.{ProblemText}
 use Rattle.verdict_core.specs.declared.verdict.Verdict.{Verdict}
 use Rattle.text_items.specs.declared.fault.TextFault.{TextFault}
 use Rattle.text_items.specs.declared.fault.TextFault.TheVariants.{Malformed}
 use Rattle.text_items.specs.declared.reading.TheConstants.{MAX_NUMBER}
 use Rattle.text_items.specs.Reading.{◌>>=◌, next_line, next_token, line_end, word, last_count, text_end}
-use Rattle.text_items.specs.Numbers.{numbers, numbers_behind, is_long}
+use Rattle.text_items.specs.NumberLines.{line_numbers, numbers_behind, is_long}
 use Rattle.text_items.specs.Kept.{low}
 use Rattle.text_items.specs.Braids.{letters, letter_of, is_long_letter}
 use Rattle.verdict_text.specs.Cocycles.{cocycle_item}
@@ -44,7 +44,8 @@ use Rattle.evidence_core.specs.declared.evidence.Evidence.{Evidence}
 use Rattle.evidence_core.specs.declared.evidence.Evidence.TheVariants.{Numbers, Linking}
 use Rattle.number_text.specs.declared.evidence_items.TheConstants.{THIRD_VERSION}
 use Rattle.number_text.specs.BlockCocycles.{cocycle_or_none}
-use Rattle.number_text.specs.Evidence.{seeds_at, numbers_at, counted_item, count_of, numbers_evidence, components_at, letters_at, linked_item, linking_evidence}
+use Rattle.number_text.specs.Evidence.{seeds_at, numbers_line_at, seeded_numbers_item, count_of, numbers_evidence, components_at, letters_at, linked_item}
+use Rattle.number_text.specs.Evidence.{linking_evidence}
 use Rattle.number_text.specs.Evidence.{evidence_at, head_at, third_item}
 use Rattle.number_text.specs.declared.said.Said.{Said}
 use Rattle.number_text.specs.declared.said.Said.TheVariants as said
@@ -56,8 +57,8 @@ pub seeds_at_at : (line : NumberedLine) → At line.number (seeds_at line)
 unfolding seeds_at
 seeds_at_at line = at_bind (numbers_behind_at (codes "seeds") line) (λ values e. at_ok)
 
-pub numbers_at_at : (count : ℕ) (line : NumberedLine) → At line.number (numbers_at count line)
-unfolding numbers_at
+pub numbers_at_at : (count : ℕ) (line : NumberedLine) → At line.number (numbers_line_at count line)
+unfolding numbers_line_at
 numbers_at_at count line =
     at_bind (word_at (codes "numbers") line) (λ rest e. at_same ((word_keeps (codes "numbers") line).of rest e)
     (at_bind (each_number_at rest) (λ values f. at_cond (list_any is_long values) at_limit (at_cond (length values == count) at_ok at_malformed))))
@@ -65,11 +66,11 @@ numbers_at_at count line =
 abbrev counted_with : ArrayVec ℕ → List ℕ → Counted
 counted_with seeds list = record { seeds = seeds; numbers = list }
 
-counted_steady : (count : ℕ) → Steady Anywhere (counted_item count)
-unfolding counted_item
+counted_steady : (count : ℕ) → Steady Anywhere (seeded_numbers_item count)
+unfolding seeded_numbers_item
 counted_steady count =
-    line_then seeds_at (λ seeds text. next_line text >>= λ two. numbers_at count two.0 >>= λ list. Ok (counted_with seeds list, two.1)) seeds_at_at
-    (λ seeds. line_then (numbers_at count) (λ list text. Ok (counted_with seeds list, text)) (numbers_at_at count)
+    line_then seeds_at (λ seeds text. next_line text >>= λ two. numbers_line_at count two.0 >>= λ list. Ok (counted_with seeds list, two.1)) seeds_at_at
+    (λ seeds. line_then (numbers_line_at count) (λ list text. Ok (counted_with seeds list, text)) (numbers_at_at count)
     (λ list. pure_steady (counted_with seeds list)))
 
 components_at_at : (line : NumberedLine) → At line.number (components_at line)
@@ -98,13 +99,15 @@ block_with q o = record { listed = q; cocycle = o }
 
 abbrev both_counted : NamedQuandle → Option LargeWeighing → Text → Result (Evidence × Text) TextFault
 both_counted q o text =
-    counted_item (count_of o) text >>= λ first. counted_item (count_of o) first.1 >>= λ second. Ok (Numbers (block_with q o) first.0 second.0, second.1)
+    seeded_numbers_item (count_of o) text >>= λ first. seeded_numbers_item (count_of o) first.1 >>= λ second. Ok
+    (Numbers (block_with q o) first.0 second.0, second.1)
 
 both_steady : (q : NamedQuandle) (o : Option LargeWeighing) → Steady Anywhere (both_counted q o)
 both_steady q o =
-    then_steady Anywhere (counted_item (count_of o))
-    (λ first text. counted_item (count_of o) text >>= λ second. Ok (Numbers (block_with q o) first second.0, second.1)) (counted_steady (count_of o))
-    (λ first. then_steady Anywhere (counted_item (count_of o)) (λ second text. Ok (Numbers (block_with q o) first second, text)) (counted_steady (count_of o))
+    then_steady Anywhere (seeded_numbers_item (count_of o))
+    (λ first text. seeded_numbers_item (count_of o) text >>= λ second. Ok (Numbers (block_with q o) first second.0, second.1)) (counted_steady (count_of o))
+    (λ first. then_steady Anywhere (seeded_numbers_item (count_of o)) (λ second text. Ok (Numbers (block_with q o) first second, text))
+    (counted_steady (count_of o))
     (λ second. pure_steady (Numbers (block_with q o) first second)))
 
 -- behind a cocycle of either kind, or none
@@ -133,7 +136,7 @@ unfolding shadow_item next_line
 shaded_due q ending = refl
 
 alone_due : (q : NamedQuandle) → IsDue (both_counted q None)
-unfolding counted_item next_line
+unfolding seeded_numbers_item next_line
 alone_due q ending = refl
 
 abbrev behind_quandle : NamedQuandle → Text → Result (Evidence × Text) TextFault
@@ -284,7 +287,7 @@ third_end p text = third_item text >>= λ evidence. text_end evidence.1 >>= λ e
 
 abbrev verdict_end : ProblemText → Text → Result (ProblemText × Said) TextFault
 verdict_end p text =
-    verdict_item (columns p.first) (columns p.second) text >>= λ verdict. text_end verdict.1 >>= λ end. Ok (p, said.Verdict verdict.0)
+    verdict_item (column_count p.first) (column_count p.second) text >>= λ verdict. text_end verdict.1 >>= λ end. Ok (p, said.Verdict verdict.0)
 
 -- behind a problem
 abbrev said_end : ProblemText → Text → Result (ProblemText × Said) TextFault
@@ -302,13 +305,13 @@ flat_judged (Err e) p = refl
 
 flat_said : (r : Result (ProblemText × Text) TextFault)
     → cond (has_third r) (r >>= λ problem. third_end problem.0 problem.1)
-    (with_verdict (r >>= λ problem. verdict_item (columns problem.0.first) (columns problem.0.second) problem.1
+    (with_verdict (r >>= λ problem. verdict_item (column_count problem.0.first) (column_count problem.0.second) problem.1
     >>= λ verdict. text_end verdict.1 >>= λ end. Ok (problem.0, verdict.0)))
     ≡ (r >>= λ problem. said_end problem.0 problem.1)
 flat_said (Err e) = refl
 flat_said (Ok problem) =
     ap (λ v. cond (starts_third problem.1.lines) (third_end problem.0 problem.1) v)
-    (flat_judged (verdict_item (columns problem.0.first) (columns problem.0.second) problem.1) problem.0)
+    (flat_judged (verdict_item (column_count problem.0.first) (column_count problem.0.second) problem.1) problem.0)
 
 said_is : (text : Text) → said_in text ≡ then_read problem_item said_end text
 unfolding third_in check_in
@@ -323,8 +326,8 @@ end_of_said p =
     by_next_fails starts_third (third_end p) (verdict_end p) third_of_next refl
     (then_fails Anywhere third_item (λ evidence text. text_end text >>= λ end. Ok (p, said.Evidence evidence)) anywhere_seen third_steady
     (λ evidence. end_fails (p, said.Evidence evidence)))
-    (then_fails Anywhere (verdict_item (columns p.first) (columns p.second)) (λ verdict text. text_end text >>= λ end. Ok (p, said.Verdict verdict)) anywhere_seen
-    (verdict_steady (columns p.first) (columns p.second)) (λ verdict. end_fails (p, said.Verdict verdict)))
+    (then_fails Anywhere (verdict_item (column_count p.first) (column_count p.second)) (λ verdict text. text_end text >>= λ end. Ok (p, said.Verdict verdict)) anywhere_seen
+    (verdict_steady (column_count p.first) (column_count p.second)) (λ verdict. end_fails (p, said.Verdict verdict)))
 
 pub said_fails : FailsFirst said_in
 said_fails = same_fails (then_read problem_item said_end) said_in said_is (then_fails AtOther problem_item said_end other_seen problem_steady end_of_said)

@@ -12,7 +12,7 @@ use Rattle.std.proofs.lemmas.List.FromFn.{length-range_with_len}
 use Rattle.quandle_core.specs.declared.quandle.TheConstants.{MAX_ORDER}
 use Rattle.quandle_core.specs.Quandle.{Table, over}
 use Rattle.cocycle_core.specs.ShadowCocycle.{ShadowCochain, IsShadowCocycle}
-use Rattle.cocycle_core.specs.ShadowFault.{first_fault}
+use Rattle.cocycle_core.specs.ShadowFault.{first_shadow_fault}
 use Rattle.cocycle_core.proofs.ShadowAccepted.{none_from_cocycle}
 use Rattle.text_lines.specs.Lines.{Text, text_from}
 use Rattle.text_lines.specs.Spelled.{numbered, is_line}
@@ -22,7 +22,7 @@ use Rattle.text_items.specs.declared.fault.TextFault.{TextFault}
 use Rattle.text_items.specs.declared.fault.TextFault.TheVariants.{Malformed}
 use Rattle.text_items.specs.declared.modulus.TheConstants.{MAX_MODULUS}
 use Rattle.text_items.specs.Reading.{next_line, next_token, line_end}
-use Rattle.text_items.specs.Numbers.{numbers_below}
+use Rattle.text_items.specs.NumberLines.{numbers_below}
 use Rattle.text_items.specs.Quandles.{table_row, table_rows}
 use Rattle.knot_text.specs.Printed.{row_tokens}
 use Rattle.knot_text.proofs.LineTexts.{map_decimals}
@@ -35,7 +35,7 @@ use Rattle.evidence_core.specs.declared.shadows.Spelling.{Spelling}
 use Rattle.evidence_core.specs.declared.shadows.Spelling.TheVariants as spelling
 use Rattle.evidence_core.specs.declared.shadows.SpelledShadow.{SpelledShadow}
 use Rattle.number_text.specs.declared.shadows.Head.TheVariants as head
-use Rattle.number_text.specs.Shadows.{spelled, cochain, head_at, cochain_item, shadow_item}
+use Rattle.number_text.specs.Shadows.{spelled, shadow_cochain, shadow_head_at, shadow_cochain_item, shadow_item}
 use Rattle.certificates.specs.Shadows.{shadow_rows, shadow_value_lines, shadow_lines_by, shadow_lines, shadow_text, Spells, HasShadowText}
 use Rattle.certificates.proofs.ValueRows.{AreWithin, value_row_below, value_rows_last}
 
@@ -73,7 +73,7 @@ value_rows_again t many bound n a (suc count) text most within lt =
 -- what the laws say of some entries
 abbrev tested : Table → ℕ → List ℕ → ℕ → Text → Result (SpelledShadow × Text) TextFault
 tested q k entries n text =
-    cond (is_none (first_fault (cochain q k entries))) (Ok (spelled spelling.Table (cochain q k entries), text)) (Err (Malformed n))
+    cond (is_none (first_shadow_fault (shadow_cochain q k entries))) (Ok (spelled spelling.Table (shadow_cochain q k entries), text)) (Err (Malformed n))
 
 within_of : (t : ShadowCochain) → IsShadowCocycle t → AreWithin (shadow_rows t) (t.quandle.order * t.quandle.order) t.modulus
 within_of t is = λ x y lx ly.
@@ -83,8 +83,8 @@ within_of t is = λ x y lx ly.
     (is.within (x / t.quandle.order) (x % t.quandle.order) y (div_below x t.quandle.order t.quandle.order some lx) (mod_below x t.quandle.order some) ly)
 
 cochain_by : (t : ShadowCochain) (n j : ℕ) (text : Text) → IsShadowCocycle t → t.modulus ≤ MAX_MODULUS → t.quandle.order * t.quandle.order ≡ suc j
-    → cochain_item t.quandle t.modulus (lines_before (numbered n (shadow_value_lines t)) text) ≡ Ok (spelled spelling.Table t, text)
-unfolding cochain_item next_line
+    → shadow_cochain_item t.quandle t.modulus (lines_before (numbered n (shadow_value_lines t)) text) ≡ Ok (spelled spelling.Table t, text)
+unfolding shadow_cochain_item next_line
 cochain_by t n j text is few size =
     let q = t.quandle in
     let k = t.modulus in
@@ -98,10 +98,10 @@ cochain_by t n j text is few size =
     let all_rows = value_rows_again rows many k n 0 j text few within (omega (arith, size)) in
     let end = value_line_again rows many k (n + j + 1) (0 + j) few within (omega (arith, size)) in
     let all : front ++ row rows (0 + j) ≡ t.entries = ap (λ (x : ℕ). front ++ row rows x) last ∙ value_rows_last rows many j is.cube size in
-    let none : is_none (first_fault t) ≡ true = ap (λ f. is_none f) (none_from_cocycle t is) in
-    let read : cochain_item q k (lines_before lines text) ≡ tested q k (front ++ row rows (0 + j)) (n + j + 1) text = rw (fewer, all_rows, end) refl in
+    let none : is_none (first_shadow_fault t) ≡ true = ap (λ f. is_none f) (none_from_cocycle t is) in
+    let read : shadow_cochain_item q k (lines_before lines text) ≡ tested q k (front ++ row rows (0 + j)) (n + j + 1) text = rw (fewer, all_rows, end) refl in
     let passes : tested q k t.entries (n + j + 1) text ≡ Ok (spelled spelling.Table t, text) = rw none refl in
-    ap (λ (i : ℕ). cochain_item q k (lines_before (numbered n (map (row_tokens rows) (range_with_len 0 i))) text)) size ∙ read
+    ap (λ (i : ℕ). shadow_cochain_item q k (lines_before (numbered n (map (row_tokens rows) (range_with_len 0 i))) text)) size ∙ read
     ∙ ap (λ (es : List ℕ). tested q k es (n + j + 1) text) all ∙ passes
 
 -- ---- the first line
@@ -121,8 +121,8 @@ no_name k few =
     turned false e = refl
 
 modulus_again : (q : Table) (k n : ℕ) → q.order ≤ MAX_ORDER → 2 ≤ k → k ≤ MAX_MODULUS
-    → head_at q (line_of n (codes "shadow" ∷ decimal k ∷ [])) ≡ Ok (head.Table k)
-unfolding head_at next_token line_end
+    → shadow_head_at q (line_of n (codes "shadow" ∷ decimal k ∷ [])) ≡ Ok (head.Table k)
+unfolding shadow_head_at next_token line_end
 modulus_again q k n small some few =
     rw (
       word_again (codes "shadow") n (decimal k ∷ []),
@@ -134,8 +134,8 @@ modulus_again q k n small some few =
     ) refl
 
 name_again : (q : Table) (n : ℕ) → q.order ≤ MAX_ORDER → has_formula q ≡ true
-    → head_at q (line_of n (codes "shadow" ∷ codes "mochizuki" ∷ [])) ≡ Ok head.Mochizuki
-unfolding head_at next_token line_end
+    → shadow_head_at q (line_of n (codes "shadow" ∷ codes "mochizuki" ∷ [])) ≡ Ok head.Mochizuki
+unfolding shadow_head_at next_token line_end
 name_again q n small formula = rw (word_again (codes "shadow") n (codes "mochizuki" ∷ []), most_again MAX_ORDER n q.order small, formula) refl
 
 -- ---- the whole

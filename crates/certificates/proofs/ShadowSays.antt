@@ -6,15 +6,15 @@ use Rattle.std.proofs.lemmas.Bool.{and_parts}
 use Rattle.quandle_core.specs.declared.quandle.TheConstants.{MAX_ORDER}
 use Rattle.quandle_core.specs.Quandle.{Table, IsQuandle}
 use Rattle.quandle_core.specs.Tables.{dihedral}
-use Rattle.cocycle_core.specs.ShadowFault.{first_fault}
+use Rattle.cocycle_core.specs.ShadowFault.{first_shadow_fault}
 use Rattle.cocycle_core.specs.declared.shadow_fault.ShadowFault.{ShadowFault}
 use Rattle.cocycle_core.proofs.ShadowAccepted.{cocycle_from_none}
 use Rattle.text_lines.specs.Lines.{NumberedLine, Text}
-use Rattle.text_lines.specs.Numbers.{number_of}
+use Rattle.text_lines.specs.NumberTokens.{number_of}
 use Rattle.text_items.specs.declared.fault.TextFault.{TextFault}
 use Rattle.text_items.specs.declared.modulus.TheConstants.{MAX_MODULUS}
 use Rattle.text_items.specs.Reading.{next_line, next_token, line_end, word, or_malformed}
-use Rattle.text_items.specs.Numbers.{numbers_below}
+use Rattle.text_items.specs.NumberLines.{numbers_below}
 use Rattle.text_items.specs.Quandles.{table_rows}
 use Rattle.knot_text.proofs.Says.{Says, says_ok, says_err, says_bind, says_if}
 use Rattle.knot_text.proofs.LineSays.{at_most_says}
@@ -25,7 +25,7 @@ use Rattle.evidence_core.specs.declared.shadows.Spelling.TheVariants as spelling
 use Rattle.evidence_core.specs.declared.shadows.SpelledShadow.{SpelledShadow}
 use Rattle.number_text.specs.declared.shadows.Head.{Head}
 use Rattle.number_text.specs.declared.shadows.Head.TheVariants as head
-use Rattle.number_text.specs.Shadows.{formula_of, modulus_of, head_of, head_at, spelled, cochain, cochain_item, shadow_of, shadow_item}
+use Rattle.number_text.specs.Shadows.{formula_of, modulus_of, head_of, shadow_head_at, spelled, shadow_cochain, shadow_cochain_item, shadow_of, shadow_item}
 use Rattle.certificates.specs.Shadows.{HasShadowText}
 
 -- whatever is read
@@ -53,8 +53,8 @@ head_of_says q n token =
     says_if (bytes_eq token (codes "mochizuki")) (λ named. formula_says q n)
     (λ other. says_bind (λ x. Unit {0}) (anything (or_malformed n (number_of token))) (λ value is. modulus_says q n value))
 
-head_says : (q : Table) (line : NumberedLine) → Says (head_at q line) (IsHead q)
-unfolding head_at
+head_says : (q : Table) (line : NumberedLine) → Says (shadow_head_at q line) (IsHead q)
+unfolding shadow_head_at
 head_says q line =
     says_bind (λ x. Unit {0}) (anything (word (codes "shadow") line)) (λ rest named.
     says_bind (λ x. Unit {0}) (anything (next_token rest)) (λ token there.
@@ -73,21 +73,21 @@ formula_has q quandle small formula =
     }
 
 tested_has : (q : Table) (k : ℕ) (entries : List ℕ) (text : Text) → IsQuandle q → q.order ≤ MAX_ORDER → k ≤ MAX_MODULUS → (f : Option ShadowFault)
-    → first_fault (cochain q k entries) ≡ f → (e : TextFault)
-    → Says {A = SpelledShadow × Text} (cond (is_none f) (Ok (spelled spelling.Table (cochain q k entries), text)) (Err e)) (λ x. HasShadowText q x.0)
+    → first_shadow_fault (shadow_cochain q k entries) ≡ f → (e : TextFault)
+    → Says {A = SpelledShadow × Text} (cond (is_none f) (Ok (spelled spelling.Table (shadow_cochain q k entries), text)) (Err e)) (λ x. HasShadowText q x.0)
 tested_has q k entries text quandle small few (Some fault) is e = says_err
 tested_has q k entries text quandle small few None is e =
-    says_ok (spelled spelling.Table (cochain q k entries), text)
-    (record { cocycle = cocycle_from_none (cochain q k entries) quandle is; same = refl; few = small; spells = few })
+    says_ok (spelled spelling.Table (shadow_cochain q k entries), text)
+    (record { cocycle = cocycle_from_none (shadow_cochain q k entries) quandle is; same = refl; few = small; spells = few })
 
 cochain_has : (q : Table) (k : ℕ) (text : Text) → IsQuandle q → q.order ≤ MAX_ORDER → k ≤ MAX_MODULUS
-    → Says (cochain_item q k text) (λ x. HasShadowText q x.0)
-unfolding cochain_item
+    → Says (shadow_cochain_item q k text) (λ x. HasShadowText q x.0)
+unfolding shadow_cochain_item
 cochain_has q k text quandle small few =
     says_bind (λ x. Unit {0}) (anything (table_rows q.order k (q.order * q.order - 1) text)) (λ front are.
     says_bind (λ x. Unit {0}) (anything (next_line front.1)) (λ line there.
     says_bind (λ x. Unit {0}) (anything (numbers_below q.order k line.0)) (λ row last.
-    tested_has q k (front.0 ++ row) line.1 quandle small few (first_fault (cochain q k (front.0 ++ row))) refl _)))
+    tested_has q k (front.0 ++ row) line.1 quandle small few (first_shadow_fault (shadow_cochain q k (front.0 ++ row))) refl _)))
 
 said_has : (q : Table) (said : Head) (text : Text) → IsQuandle q → IsHead q said → Says (shadow_of q said text) (λ x. HasShadowText q x.0)
 said_has q head.Mochizuki text quandle is = says_ok (spelled spelling.Mochizuki (mochizuki q.order), text) (formula_has q quandle is.0 is.1)

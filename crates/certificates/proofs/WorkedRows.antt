@@ -3,7 +3,7 @@ use Rattle.std.proofs.Common.{◌≡◌, ℕ, pos, negsuc, List, [], ◌∷◌, 
 use Rattle.std.specs.Fmt.{digits}
 use Rattle.grid_core.specs.Diagram.{Diagram as Marks}
 use Rattle.text_items.specs.Reading.{next_line, text_end, next_token, line_end, word, number, last_number, last_count, each_token}
-use Rattle.text_items.specs.Numbers.{numbers_behind}
+use Rattle.text_items.specs.NumberLines.{numbers_behind}
 use Rattle.text_items.specs.Grids.{x_at, o_at, grid_item}
 use Rattle.text_items.specs.Quandles.{quandles, quandle_list, built_in}
 use Rattle.verdict_text.specs.Diagrams.{diagram_item}

@@ -2,7 +2,7 @@
 ghost use Rattle.std.specs.Prelude.{◌≡◌, ◌<◌, ◌*◌, ◌++◌, ◌/◌, ◌%◌, map, OnOk};
 ghost use Rattle.std.specs.List.{range_with_len};
 ghost use Rattle.text_lines.specs.Spelled.{lines_text};
-ghost use Rattle.cocycle_core.specs.ShadowCocycle.{value};
+ghost use Rattle.cocycle_core.specs.ShadowCocycle.{shadow_value};
 ghost use Rattle.certificates.specs.Shadows.{shadow_value_lines, shadow_text};
 
 use arrayvec::ArrayVec;
@@ -41,7 +41,7 @@ fn push_values(out: &mut Vec<u8>, cocycle: &ShadowCocycle) -> Result<(), AllocEr
 /// The values of a colour of a region and one of a strand with each colour.
 fn values_of(cocycle: &ShadowCocycle, w: u8, x: u8) -> ArrayVec<u8, MAX_ORDER>
     requires { (w < cocycle.now.quandle.order) × (x < cocycle.now.quandle.order) }
-    ensures { result.items ≡ map (value cocycle.now w x) (range_with_len 0 cocycle.now.quandle.order) }
+    ensures { result.items ≡ map (shadow_value cocycle.now w x) (range_with_len 0 cocycle.now.quandle.order) }
 {
     let mut row = ArrayVec::new();
     for y in 0..cocycle.quandle().order() {

@@ -5,8 +5,8 @@ use Rattle.text_items.specs.declared.fault.TextFault.TheVariants as bad
 use Rattle.verdict_core.specs.declared.problem.ProblemText.{ProblemText}
 use Rattle.cert_check.specs.declared.ruling.Ruling.{Ruling}
 use Rattle.cert_check.specs.declared.ruling.Ruling.TheVariants.{Accepted, Rejected}
-use Rattle.evidence_core.specs.declared.cause.Ruling.{Ruling as NumberRuling}
-use Rattle.evidence_core.specs.declared.cause.Ruling.TheVariants as numbers
+use Rattle.evidence_core.specs.declared.cause.NumberRuling.{NumberRuling}
+use Rattle.evidence_core.specs.declared.cause.NumberRuling.TheVariants as numbers
 use Rattle.knot_ports.specs.Change.{Change, IsUntouched}
 use Rattle.knot_ports.specs.declared.limits.TheConstants.{MAX_CERTIFICATE}
 use Rattle.knot_ports.specs.declared.status.Status.{Status}
@@ -20,8 +20,8 @@ use Rattle.table_check.specs.declared.cause.TableRuling.TheVariants as table
 use Rattle.table_check.specs.Answer.{table_ruling_status}
 use Rattle.check_job.specs.Input.{Certificate, certificate_of}
 use Rattle.check_job.specs.Answer.{ruling_status, number_ruling_status, AnswersSaid, AnswersCheck}
-use Rattle.check_job.specs.Ending.{IsDue, IsCutOff, Writes, Ends}
-use Rattle.check_job.specs.Ports.{IsWithoutReply, IsWritten}
+use Rattle.check_job.specs.Ending.{IsCheckReplyDue, IsCheckCutOff, WritesCheckReply, EndsCheck}
+use Rattle.check_job.specs.Ports.{IsUnreadWithin, IsWritten}
 
 abbrev status_of : PlainReply → Status
 status_of r = r.status
@@ -60,10 +60,10 @@ of_read (Err (bad.Malformed line)) r a = ap is_of_reply (ap status_of a)
 of_read (Err (bad.Limit line)) r a = ap is_of_reply (ap status_of a)
 of_read (Err bad.OutOfMemory) r a = absurd a
 
-of_due : (source : Change) (r : PlainReply) → IsDue source r → is_of_reply r.status ≡ true
+of_due : (source : Change) (r : PlainReply) → IsCheckReplyDue source r → is_of_reply r.status ≡ true
 of_due source r due = elim due [ inl whole ↦ of_read (certificate_of whole.bytes) r whole.answer | inr long ↦ ap is_of_reply (ap status_of long.is) ]
 
-written : (source sink : Change) (s : Status) → is_of_reply s ≡ true → Writes source sink s → Ends source sink s
+written : (source sink : Change) (s : Status) → is_of_reply s ≡ true → WritesCheckReply source sink s → EndsCheck source sink s
 written source sink status.Done is writes = writes
 written source sink status.Rejected is writes = writes
 written source sink status.Malformed is writes = writes
@@ -74,19 +74,19 @@ written source sink status.ReadFault is writes = absurd (let wrong : false ≡ t
 written source sink status.WriteFault is writes = absurd (let wrong : false ≡ true = is in cc)
 written source sink status.OutOfMemory is writes = absurd (let wrong : false ≡ true = is in cc)
 
-pub reply_ends : (source sink : Change) (r : PlainReply) (s : Status) → IsDue source r → IsWritten sink r.text r.status s → Ends source sink s
+pub reply_ends : (source sink : Change) (r : PlainReply) (s : Status) → IsCheckReplyDue source r → IsWritten sink r.text r.status s → EndsCheck source sink s
 reply_ends source sink r s due delivered = elim delivered [
   | inl whole ↦
       let same : r ≡ record { status = s; text = r.text } = λ i. record { status = sym whole.0 i; text = r.text } in
       written source sink s (ap is_of_reply whole.0 ∙ of_due source r due)
-      (record { text = r.text; due = subst (IsDue source) same due; written = whole.1 })
+      (record { text = r.text; due = subst (IsCheckReplyDue source) same due; written = whole.1 })
   | inr cut ↦
-      let cut_off : IsCutOff source sink = record { failed = cut.1.0; reply = r; due = due; front = cut.1.1 } in
-      subst (Ends source sink) (sym cut.0) cut_off
+      let cut_off : IsCheckCutOff source sink = record { failed = cut.1.0; reply = r; due = due; front = cut.1.1 } in
+      subst (EndsCheck source sink) (sym cut.0) cut_off
 ]
 
-pub without_ends : (source sink : Change) (s : Status) → IsWithoutReply MAX_CERTIFICATE source s → IsUntouched sink → Ends source sink s
+pub without_ends : (source sink : Change) (s : Status) → IsUnreadWithin MAX_CERTIFICATE source s → IsUntouched sink → EndsCheck source sink s
 without_ends source sink s without untouched = elim without [
-  | inl fault ↦ subst (Ends source sink) (sym fault.0) (fault.1.0, fault.1.1, untouched)
-  | inr memory ↦ subst (Ends source sink) (sym memory.0) (memory.1, untouched)
+  | inl fault ↦ subst (EndsCheck source sink) (sym fault.0) (fault.1.0, fault.1.1, untouched)
+  | inr memory ↦ subst (EndsCheck source sink) (sym memory.0) (memory.1, untouched)
 ]

@@ -7,7 +7,7 @@ use Rattle.text_lines.specs.Lines.{NumberedLine, Text, text_of}
 use Rattle.text_items.specs.declared.fault.TextFault.{TextFault}
 use Rattle.text_items.specs.declared.fault.TextFault.TheVariants.{Malformed}
 use Rattle.text_items.specs.Reading.{next_line, next_token, word}
-use Rattle.text_items.specs.Numbers.{numbers_behind}
+use Rattle.text_items.specs.NumberLines.{numbers_behind}
 use Rattle.text_items.specs.Grids.{x_at, grid_item}
 use Rattle.verdict_text.specs.Diagrams.{diagram_item}
 use Rattle.verdict_text.specs.Problems.{problem_item, check_in}
@@ -15,13 +15,13 @@ use Rattle.verdict_core.specs.declared.problem.ProblemText.{ProblemText}
 use Rattle.number_text.specs.declared.said.Said.{Said}
 use Rattle.number_text.specs.Said.{said_in, said_of}
 use Rattle.table_check.specs.declared.tables.KnotTable.{KnotTable}
-use Rattle.table_check.specs.Tables.{is_fourth_line, starts_table, begins_table, table_of}
+use Rattle.table_check.specs.Tables.{is_fourth_line, starts_table, begins_table, knot_table_of}
 use Rattle.reply_text.specs.declared.reply.PlainReply.{PlainReply}
 use Rattle.reply_text.specs.Reply.{AnswersRead}
 use Rattle.table_check.specs.Answer.{AnswersTable, IsTableCertificate}
 use Rattle.check_job.specs.Input.{as_pair, as_table, certificate_of}
 use Rattle.check_job.specs.Answer.{AnswersPair, AnswersCheck}
-use Rattle.check_job.specs.Truth.{IsTruePair, IsCertificate}
+use Rattle.check_job.specs.CertificateTruth.{IsTruePair, IsCertificate}
 
 as_table_answered : (read : Result KnotTable TextFault) (reply : PlainReply) → AnswersRead AnswersTable read reply
     → AnswersRead AnswersCheck (as_table read) reply
@@ -33,9 +33,9 @@ as_pair_answered : (read : Result (ProblemText × Said) TextFault) (reply : Plai
 as_pair_answered (Ok pair) reply answers = answers
 as_pair_answered (Err fault) reply answers = answers
 
-pub table_answered : (bytes : List ℕ) (reply : PlainReply) → begins_table bytes ≡ true → AnswersRead AnswersTable (table_of bytes) reply
+pub table_answered : (bytes : List ℕ) (reply : PlainReply) → begins_table bytes ≡ true → AnswersRead AnswersTable (knot_table_of bytes) reply
     → AnswersRead AnswersCheck (certificate_of bytes) reply
-table_answered bytes reply begins answers = rw begins (as_table_answered (table_of bytes) reply answers)
+table_answered bytes reply begins answers = rw begins (as_table_answered (knot_table_of bytes) reply answers)
 
 pub pair_answered : (bytes : List ℕ) (reply : PlainReply) → begins_table bytes ≡ false → AnswersRead AnswersPair (said_of bytes) reply
     → AnswersRead AnswersCheck (certificate_of bytes) reply

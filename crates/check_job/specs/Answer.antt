@@ -6,13 +6,13 @@ use Rattle.verdict_core.specs.declared.verdict.Verdict.{Verdict}
 use Rattle.verdict_core.specs.Diagrams.{grid_of}
 use Rattle.cert_check.specs.declared.ruling.Ruling.{Ruling}
 use Rattle.cert_check.specs.declared.ruling.Ruling.TheVariants.{Accepted, Rejected}
-use Rattle.cert_check.specs.Ruling.{RulesOn}
+use Rattle.cert_check.specs.Ruling.{RulesOnVerdict}
 use Rattle.evidence_core.specs.declared.evidence.Evidence.{Evidence}
 use Rattle.number_text.specs.declared.said.Said.{Said}
 use Rattle.number_text.specs.declared.said.Said.TheVariants as said
-use Rattle.evidence_core.specs.declared.cause.Ruling.{Ruling as NumberRuling}
-use Rattle.evidence_core.specs.declared.cause.Ruling.TheVariants as numbers
-use Rattle.number_check.specs.Ruling.{RulesOn as RulesOnNumbers}
+use Rattle.evidence_core.specs.declared.cause.NumberRuling.{NumberRuling}
+use Rattle.evidence_core.specs.declared.cause.NumberRuling.TheVariants as numbers
+use Rattle.number_check.specs.Ruling.{RulesOnNumbers}
 use Rattle.reply_text.specs.declared.reply.PlainReply.{PlainReply}
 use Rattle.knot_ports.specs.declared.status.Status.{Status}
 use Rattle.knot_ports.specs.declared.status.Status.TheVariants as status
@@ -32,7 +32,7 @@ number_ruling_status (numbers.Rejected cause) = status.Rejected
 -- the ruling on the evidence of a verdict
 pub record AnswersVerdict (problem : ProblemText) (verdict : Verdict) (reply : PlainReply) : Type 0 where
   pub ruling : Ruling
-  pub rules : RulesOn (grid_of problem.first) (grid_of problem.second) verdict ruling
+  pub rules : RulesOnVerdict (grid_of problem.first) (grid_of problem.second) verdict ruling
   pub is : reply ≡ plain_reply (ruling_status ruling) (ruling_line ruling)
 
 -- the ruling on evidence by numbers

@@ -10,10 +10,10 @@ use Rattle.reply_text.specs.declared.reply.PlainReply.{PlainReply}
 use Rattle.check_job.specs.Input.{certificate_of}
 use Rattle.reply_text.specs.Reply.{too_long, AnswersRead}
 use Rattle.check_job.specs.Answer.{AnswersCheck}
-use Rattle.check_job.specs.Truth.{IsCertificate}
+use Rattle.check_job.specs.CertificateTruth.{IsCertificate}
 
 -- the reply to the whole input, and what it says with Done is true
-pub record IsReplyTo (source : Change) (reply : PlainReply) : Type 0 where
+pub record IsCheckReplyTo (source : Change) (reply : PlainReply) : Type 0 where
   pub bytes : List ℕ
   pub came : IsWhole MAX_CERTIFICATE source bytes
   pub answer : AnswersRead AnswersCheck (certificate_of bytes) reply
@@ -26,27 +26,27 @@ pub record IsTooLong (source : Change) (reply : PlainReply) : Type 0 where
   pub is : reply ≡ too_long
 
 -- the reply that is due to the input
-abbrev pub IsDue : Change → PlainReply → Type 0
-IsDue source reply = IsReplyTo source reply ⊎ IsTooLong source reply
+abbrev pub IsCheckReplyDue : Change → PlainReply → Type 0
+IsCheckReplyDue source reply = IsCheckReplyTo source reply ⊎ IsTooLong source reply
 
 -- the reply that is due has this status, and its text was written
-pub record Writes (source sink : Change) (s : Status) : Type 0 where
+pub record WritesCheckReply (source sink : Change) (s : Status) : Type 0 where
   pub text : List ℕ
-  pub due : IsDue source (record { status = s; text = text })
+  pub due : IsCheckReplyDue source (record { status = s; text = text })
   pub written : Appends sink.before sink.after text
 
 -- the sink failed, and a front of the text that is due was written
-pub record IsCutOff (source sink : Change) : Type 0 where
+pub record IsCheckCutOff (source sink : Change) : Type 0 where
   pub failed : Failed sink
   pub reply : PlainReply
-  pub due : IsDue source reply
+  pub due : IsCheckReplyDue source reply
   pub front : AppendsFront sink.before sink.after reply.text
 
 -- how a call that ends with this status went
-abbrev pub Ends : Change → Change → Status → Type 0
-Ends source sink status.Usage = ⊥
-Ends source sink status.Unknown = ⊥
-Ends source sink status.ReadFault = Failed source × Drops MAX_CERTIFICATE source × IsUntouched sink
-Ends source sink status.WriteFault = IsCutOff source sink
-Ends source sink status.OutOfMemory = Drops (MAX_CERTIFICATE + 1) source × IsUntouched sink
-Ends source sink s = Writes source sink s
+abbrev pub EndsCheck : Change → Change → Status → Type 0
+EndsCheck source sink status.Usage = ⊥
+EndsCheck source sink status.Unknown = ⊥
+EndsCheck source sink status.ReadFault = Failed source × Drops MAX_CERTIFICATE source × IsUntouched sink
+EndsCheck source sink status.WriteFault = IsCheckCutOff source sink
+EndsCheck source sink status.OutOfMemory = Drops (MAX_CERTIFICATE + 1) source × IsUntouched sink
+EndsCheck source sink s = WritesCheckReply source sink s

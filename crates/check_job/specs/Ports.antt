@@ -8,16 +8,16 @@ use Rattle.knot_ports.specs.declared.status.Status.{Status}
 use Rattle.knot_ports.specs.declared.status.Status.TheVariants as status
 
 -- there is nothing to write: the source failed, or memory was wanting
-abbrev pub IsWithoutReply : ℕ → Change → Status → Type 0
-IsWithoutReply limit source s =
+abbrev pub IsUnreadWithin : ℕ → Change → Status → Type 0
+IsUnreadWithin limit source s =
     ((s ≡ status.ReadFault) × (Failed source × Drops limit source)) ⊎ ((s ≡ status.OutOfMemory) × Drops (limit + 1) source)
 
 -- the whole input was read, or None where it is longer than the limit, and its bytes are lost where memory is wanting for a reply; the
 -- error is the status of a call that can't read it
-abbrev pub IsRead : ℕ → Change → Result (Option (Vec ℕ Global)) Status → Type 0
-IsRead limit source (Ok (Some bytes)) = IsWhole limit source bytes.items × Drops (limit + 1) source
-IsRead limit source (Ok None) = (bytes : List ℕ) × (IsTooMuch limit source bytes × Drops (limit + 1) source)
-IsRead limit source (Err s) = IsWithoutReply limit source s
+abbrev pub IsReadWithin : ℕ → Change → Result (Option (Vec ℕ Global)) Status → Type 0
+IsReadWithin limit source (Ok (Some bytes)) = IsWhole limit source bytes.items × Drops (limit + 1) source
+IsReadWithin limit source (Ok None) = (bytes : List ℕ) × (IsTooMuch limit source bytes × Drops (limit + 1) source)
+IsReadWithin limit source (Err s) = IsUnreadWithin limit source s
 
 -- the text was written, and its own status ends the call; or the sink failed, and a front was written
 abbrev pub IsWritten : Change → List ℕ → Status → Status → Type 0

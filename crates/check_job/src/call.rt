@@ -1,9 +1,9 @@
 //! The call: read, length, text, ruling, write.
 ghost use Rattle.std.specs.Prelude.{◌≡◌, ◌≤◌, IfOk};
 ghost use Rattle.knot_ports.specs.Change.{source_change, sink_change};
-ghost use Rattle.check_job.specs.Ending.{Ends};
+ghost use Rattle.check_job.specs.Ending.{EndsCheck};
 ghost use Rattle.check_job.specs.Ports.{IsWritten};
-ghost use Rattle.check_job.specs.Delivered.{IsMadeOf};
+ghost use Rattle.check_job.specs.Delivered.{IsCheckReplyMade};
 
 use crate::checking::answer;
 use crate::ports::{read_input, write_text};
@@ -17,7 +17,7 @@ use std::alloc::Global;
 /// other ends in `Done` where what it says of two diagrams or of a table was accepted, and is true, or in `Rejected` with the first cause. The whole
 /// answer is made before the first write, so `ReadFault` and `OutOfMemory` write nothing; `WriteFault` has written a front of what was due.
 pub fn run<S: Source, K: Sink>(alloc: Global, source: &mut S, sink: &mut K) -> Status
-    ensures ends { Ends (source_change S.Source source.old source.new) (sink_change K.Sink sink.old sink.new) result }
+    ensures ends { EndsCheck (source_change S.Source source.old source.new) (sink_change K.Sink sink.old sink.new) result }
     ensures reads { S.faults source.old ≤ S.faults source.new }
     ensures writes { K.faults sink.old ≤ K.faults sink.new }
 {
@@ -29,7 +29,7 @@ pub fn run<S: Source, K: Sink>(alloc: Global, source: &mut S, sink: &mut K) -> S
 
 /// The reply to all that the source gives; the error is the status of a call that writes nothing.
 fn answer_source<S: Source>(alloc: Global, source: &mut S) -> Result<PlainReply, Status>
-    ensures made { IsMadeOf (source_change S.Source source.old source.new) result }
+    ensures made { IsCheckReplyMade (source_change S.Source source.old source.new) result }
     ensures count { S.faults source.old ≤ S.faults source.new }
 {
     let reply = match read_input(alloc, source, MAX_CERTIFICATE)? {

@@ -1,19 +1,19 @@
 //! The job `check`: the ruling on a certificate, of what is said of two diagrams or of a table of knots.
 ghost use Rattle.std.specs.Prelude.{◌≡◌, IfOk};
 ghost use Rattle.number_text.specs.Said.{said_of};
-ghost use Rattle.cert_check.specs.Truth.{IsTrueVerdict};
-ghost use Rattle.check_job.specs.Truth.{AreApart, IsTrueSaid};
+ghost use Rattle.cert_check.specs.VerdictTruth.{IsTrueVerdict};
+ghost use Rattle.check_job.specs.CertificateTruth.{AreApart, IsTrueSaid};
 ghost use Rattle.reply_text.specs.Lines.{ruling_line, number_ruling_line};
 ghost use Rattle.reply_text.specs.Reply.{plain_reply, AnswersRead};
 ghost use Rattle.check_job.specs.Input.{certificate_of};
 ghost use Rattle.check_job.specs.Answer.{ruling_status, number_ruling_status, AnswersVerdict, AnswersEvidence, AnswersSaid, AnswersPair, AnswersCheck};
-ghost use Rattle.check_job.specs.Truth.{IsTruePair, IsCertificate};
+ghost use Rattle.check_job.specs.CertificateTruth.{IsTruePair, IsCertificate};
 
 use crate::evidence::check_evidence;
 use cert_check::{Ruling, check};
 use evidence_core::Evidence;
 use knot_ports::Status;
-use number_check::Ruling as NumberRuling;
+use number_check::NumberRuling;
 use number_text::{Said, read_said};
 use reply_text::PlainReply;
 use reply_text::lines::{number_ruling_line, ruling_line};

@@ -1,7 +1,7 @@
 //! A whole input read and a text written, each with the status with which it ends a call.
 ghost use Rattle.std.specs.Prelude.{◌<◌, ◌≤◌};
 ghost use Rattle.knot_ports.specs.Change.{source_change, sink_change};
-ghost use Rattle.check_job.specs.Ports.{IsRead, IsWritten};
+ghost use Rattle.check_job.specs.Ports.{IsReadWithin, IsWritten};
 
 use knot_ports::{ReadEnd, Sink, Source, Status, give_all, read_all};
 use std::alloc::Global;
@@ -14,7 +14,7 @@ pub fn read_input<S: Source>(
     limit: usize,
 ) -> Result<Option<Vec<u8>>, Status>
     requires { limit < usize.MAX }
-    ensures read { IsRead limit (source_change S.Source source.old source.new) result }
+    ensures read { IsReadWithin limit (source_change S.Source source.old source.new) result }
     ensures count { S.faults source.old ≤ S.faults source.new }
 {
     match read_all(alloc, source, limit) {

@@ -8,7 +8,7 @@ use Rattle.quandle_core.specs.Quandle.{Table, over}
 use Rattle.quandle_core.specs.Tables.{dihedral}
 use Rattle.quandle_core.proofs.Entries.{entry}
 use Rattle.quandle_core.proofs.Linear.{dihedral_is}
-use Rattle.cocycle_core.specs.ShadowCocycle.{ShadowCochain, IsShadowCocycle, value, one_side, other_side}
+use Rattle.cocycle_core.specs.ShadowCocycle.{ShadowCochain, IsShadowCocycle, shadow_value, one_side, other_side}
 use Rattle.cocycle_core.proofs.Mod.{same_of}
 use Rattle.cocycle_core.specs.Formula.{is_prime, quotient, formula, mochizuki}
 use Rattle.cocycle_core.proofs.Congruent.{rest_equal, same_from_rest}
@@ -16,7 +16,7 @@ use Rattle.cocycle_core.proofs.Computed.{reflected, Computes, computed, balance_
 use Rattle.cocycle_core.proofs.Factors.{reflected_same, once_reflected, both_reflected, value_same, both_sides}
 
 -- the number at a place of the table
-pub value_is : (p w x y : ℕ) → w < p → x < p → y < p → value (mochizuki p) w x y ≡ formula p w x y
+pub value_is : (p w x y : ℕ) → w < p → x < p → y < p → shadow_value (mochizuki p) w x y ≡ formula p w x y
 value_is p w x y lw lx ly =
     let row : w * p + x < p * p = mul-add-lt w p x p lw lx in
     let k : ℕ = (w * p + x) * p + y in
@@ -92,18 +92,18 @@ mochizuki_is p prime most =
           ∙ ap (λ (q : ℕ). (w + (p - 1) * x) * q % p) (vanish_at p x is lx) ∙ zero_of p (w + (p - 1) * x) two;
       law = λ a b c d la lb lc ld.
           let left : one_side (mochizuki p) a b c d ≡ formula p a c d + formula p (reflected p a c) (reflected p b c) d + formula p a b c =
-          ap₂ (λ (m n : ℕ). m + n + value (mochizuki p) a b c) (value_is p a c d la lc ld)
-          (ap₂ (λ (v w : ℕ). value (mochizuki p) v w d) (over_is p a c la lc) (over_is p b c lb lc)
+          ap₂ (λ (m n : ℕ). m + n + shadow_value (mochizuki p) a b c) (value_is p a c d la lc ld)
+          (ap₂ (λ (v w : ℕ). shadow_value (mochizuki p) v w d) (over_is p a c la lc) (over_is p b c lb lc)
           ∙ value_is p (reflected p a c) (reflected p b c) d (small a c) (small b c) ld)
           ∙ ap (λ (n : ℕ). formula p a c d + formula p (reflected p a c) (reflected p b c) d + n) (value_is p a b c la lb lc) in
           let right : other_side (mochizuki p) a b c d
           ≡ formula p (reflected p a b) c d + formula p a b d + formula p (reflected p a d) (reflected p b d) (reflected p c d) =
-          ap₂ (λ (m n : ℕ). m + n + value (mochizuki p) (over (dihedral p) a d) (over (dihedral p) b d) (over (dihedral p) c d))
-          (ap (λ (v : ℕ). value (mochizuki p) v c d) (over_is p a b la lb) ∙ value_is p (reflected p a b) c d (small a b) lc ld)
+          ap₂ (λ (m n : ℕ). m + n + shadow_value (mochizuki p) (over (dihedral p) a d) (over (dihedral p) b d) (over (dihedral p) c d))
+          (ap (λ (v : ℕ). shadow_value (mochizuki p) v c d) (over_is p a b la lb) ∙ value_is p (reflected p a b) c d (small a b) lc ld)
           (value_is p a b d la lb ld)
           ∙ ap (λ (n : ℕ). formula p (reflected p a b) c d + formula p a b d + n)
-          (ap₂ (λ (v w : ℕ). value (mochizuki p) v w (over (dihedral p) c d)) (over_is p a d la ld) (over_is p b d lb ld)
-          ∙ (ap (value (mochizuki p) (reflected p a d) (reflected p b d)) (over_is p c d lc ld)
+          (ap₂ (λ (v w : ℕ). shadow_value (mochizuki p) v w (over (dihedral p) c d)) (over_is p a d la ld) (over_is p b d lb ld)
+          ∙ (ap (shadow_value (mochizuki p) (reflected p a d) (reflected p b d)) (over_is p c d lc ld)
           ∙ value_is p (reflected p a d) (reflected p b d) (reflected p c d) (small a d) (small b d) (small c d))) in
           ap (λ (n : ℕ). n % p) left ∙ (law_of p a b c d is la lb lc ld ∙ sym (ap (λ (n : ℕ). n % p) right));
     }

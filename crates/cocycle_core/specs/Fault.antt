@@ -9,12 +9,12 @@ use Rattle.cocycle_core.specs.declared.fault.CocycleFault.TheVariants.{Modulus, 
 abbrev pub modulus_fault : Cochain → Option CocycleFault
 modulus_fault w = unless (nat_le 2 w.modulus) Modulus
 
-abbrev pub length_fault : Cochain → Option CocycleFault
-length_fault w = unless (length w.entries == w.quandle.order * w.quandle.order) Length
+abbrev pub cocycle_length_fault : Cochain → Option CocycleFault
+cocycle_length_fault w = unless (length w.entries == w.quandle.order * w.quandle.order) Length
 
 -- φ(x, y) lies below the modulus
-abbrev pub range_case : Cochain → ℕ → ℕ → Option CocycleFault
-range_case w x y = unless (nat_lt (value w x y) w.modulus) (Range x y)
+abbrev pub cocycle_range_case : Cochain → ℕ → ℕ → Option CocycleFault
+cocycle_range_case w x y = unless (nat_lt (value w x y) w.modulus) (Range x y)
 
 -- φ(x, x) = 0
 abbrev pub diagonal_case : Cochain → ℕ → Option CocycleFault
@@ -29,16 +29,17 @@ abbrev pub law_case : Cochain → ℕ → ℕ → ℕ → Option CocycleFault
 law_case w x y z = unless (obeys w x y z) (Law x y z)
 
 -- the first x, then y
-abbrev pub range_fault : Cochain → Option CocycleFault
-range_fault w = first w.quandle.order (λ x. first w.quandle.order (λ y. range_case w x y))
+abbrev pub cocycle_range_fault : Cochain → Option CocycleFault
+cocycle_range_fault w = first w.quandle.order (λ x. first w.quandle.order (λ y. cocycle_range_case w x y))
 
 abbrev pub diagonal_fault : Cochain → Option CocycleFault
 diagonal_fault w = first w.quandle.order (λ x. diagonal_case w x)
 
 -- the first x, then y, then z
-abbrev pub law_fault : Cochain → Option CocycleFault
-law_fault w = first w.quandle.order (λ x. first w.quandle.order (λ y. first w.quandle.order (λ z. law_case w x y z)))
+abbrev pub cocycle_law_fault : Cochain → Option CocycleFault
+cocycle_law_fault w = first w.quandle.order (λ x. first w.quandle.order (λ y. first w.quandle.order (λ z. law_case w x y z)))
 
 -- modulus, length, range, diagonal, law, in this order
-abbrev pub first_fault : Cochain → Option CocycleFault
-first_fault w = or_else (modulus_fault w) (or_else (length_fault w) (or_else (range_fault w) (or_else (diagonal_fault w) (law_fault w))))
+abbrev pub first_cocycle_fault : Cochain → Option CocycleFault
+first_cocycle_fault w =
+    or_else (modulus_fault w) (or_else (cocycle_length_fault w) (or_else (cocycle_range_fault w) (or_else (diagonal_fault w) (cocycle_law_fault w))))

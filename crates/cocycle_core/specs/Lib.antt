@@ -5,6 +5,6 @@ pub mod Mochizuki
 pub mod Formula
 pub mod Cocycle
 pub mod Fault
-pub mod Cases
+pub mod CocycleCases
 pub use Rattle.quandle_core.specs.Quandle
 pub use Rattle.quandle_core.specs.Tables

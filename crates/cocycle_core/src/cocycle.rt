@@ -2,7 +2,7 @@
 ghost use Rattle.std.specs.Prelude.{◌≡◌, ◌<◌, ◌*◌, length, IfOk};
 ghost use Rattle.std.specs.Result.{result_err};
 ghost use Rattle.cocycle_core.specs.Cocycle.{IsCocycle, value};
-ghost use Rattle.cocycle_core.specs.Fault.{first_fault};
+ghost use Rattle.cocycle_core.specs.Fault.{first_cocycle_fault};
 
 use crate::fault::{CocycleFault, table_fault};
 use crate::values::Values;
@@ -33,7 +33,7 @@ impl Cocycle {
     ///
     /// Else the first law that the table breaks, with its lexicographically first case.
     pub fn new(quandle: &Quandle, modulus: u8, table: &[u8]) -> Result<Cocycle, CocycleFault>
-        ensures fault { result_err result ≡ first_fault (record { quandle = quandle.now; modulus = modulus; entries = table.now }) }
+        ensures fault { result_err result ≡ first_cocycle_fault (record { quandle = quandle.now; modulus = modulus; entries = table.now }) }
         ensures cocycle { IfOk result (λ c. c ≡ record { quandle = quandle.now; modulus = modulus; entries = table.now }) }
     {
         let _order = quandle.order();

@@ -1,7 +1,8 @@
 //! Why a table of numbers is no cocycle.
 ghost use Rattle.std.specs.Prelude.{◌≡◌, ◌<◌, ◌*◌, length};
 ghost use Rattle.quandle_core.specs.Fault.{or_else};
-ghost use Rattle.cocycle_core.specs.Fault.{modulus_fault, length_fault, range_fault, diagonal_fault, law_fault, first_fault, obeys};
+ghost use Rattle.cocycle_core.specs.Fault.{modulus_fault, cocycle_length_fault, cocycle_range_fault, diagonal_fault, cocycle_law_fault, first_cocycle_fault};
+ghost use Rattle.cocycle_core.specs.Fault.{obeys};
 
 use crate::draft::Draft;
 use quandle_core::Operations;
@@ -27,7 +28,7 @@ pub(crate) fn table_fault(
     modulus: u8,
     table: &[u8],
 ) -> Option<CocycleFault>
-    ensures { result ≡ first_fault (record { quandle = quandle.entry; modulus = modulus; entries = table.now }) }
+    ensures { result ≡ first_cocycle_fault (record { quandle = quandle.entry; modulus = modulus; entries = table.now }) }
 {
     Draft::new(quandle, modulus, table).first_fault()
 }
@@ -35,7 +36,7 @@ pub(crate) fn table_fault(
 impl<'a> Draft<'a> {
     /// The first law that the table breaks, or None where it is a cocycle.
     fn first_fault(&self) -> Option<CocycleFault>
-        ensures { result ≡ first_fault self.now }
+        ensures { result ≡ first_cocycle_fault self.now }
     {
         if let Some(fault) = self.shape_fault() {
             return Some(fault);
@@ -51,7 +52,7 @@ impl<'a> Draft<'a> {
 
     /// Whether the modulus or the length is wrong.
     fn shape_fault(&self) -> Option<CocycleFault>
-        ensures { result ≡ or_else (modulus_fault self.now) (length_fault self.now) }
+        ensures { result ≡ or_else (modulus_fault self.now) (cocycle_length_fault self.now) }
     {
         if self.modulus() < 2 {
             return Some(CocycleFault::Modulus);
@@ -65,7 +66,7 @@ impl<'a> Draft<'a> {
     /// The first number that is not below the modulus.
     fn range_fault(&self) -> Option<CocycleFault>
         requires square { length self.now.entries ≡ self.now.quandle.order * self.now.quandle.order }
-        ensures { result ≡ range_fault self.now }
+        ensures { result ≡ cocycle_range_fault self.now }
     {
         let order = self.order();
         for x in 0..order {
@@ -96,7 +97,7 @@ impl<'a> Draft<'a> {
     fn law_fault(&self) -> Option<CocycleFault>
         requires some { 0 < self.now.modulus }
         requires square { length self.now.entries ≡ self.now.quandle.order * self.now.quandle.order }
-        ensures { result ≡ law_fault self.now }
+        ensures { result ≡ cocycle_law_fault self.now }
     {
         let order = self.order();
         for x in 0..order {

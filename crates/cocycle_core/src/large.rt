@@ -1,7 +1,7 @@
 //! A cocycle of a larger quandle, on the heap.
 ghost use Rattle.std.specs.Prelude.{◌≡◌, IfOk};
 ghost use Rattle.std.specs.Result.{result_err};
-ghost use Rattle.cocycle_core.specs.Fault.{first_fault};
+ghost use Rattle.cocycle_core.specs.Fault.{first_cocycle_fault};
 
 use crate::fault::{CocycleFault, table_fault};
 use crate::values::Values;
@@ -36,7 +36,7 @@ impl LargeCocycle {
         modulus: u8,
         table: Vec<u8>,
     ) -> Result<LargeCocycle, CocycleFault>
-        ensures fault { result_err result ≡ first_fault (record { quandle = quandle; modulus = modulus; entries = table.items }) }
+        ensures fault { result_err result ≡ first_cocycle_fault (record { quandle = quandle; modulus = modulus; entries = table.items }) }
         ensures cocycle { IfOk result (λ c. c ≡ record { quandle = quandle; modulus = modulus; entries = table.items }) }
     {
         let operations = quandle.operations();

@@ -1,8 +1,8 @@
 //! A shadow cocycle of a quandle.
 ghost use Rattle.std.specs.Prelude.{◌≡◌, ◌<◌, ◌*◌, length, IfOk};
 ghost use Rattle.std.specs.Result.{result_err};
-ghost use Rattle.cocycle_core.specs.ShadowCocycle.{IsShadowCocycle, value};
-ghost use Rattle.cocycle_core.specs.ShadowFault.{first_fault};
+ghost use Rattle.cocycle_core.specs.ShadowCocycle.{IsShadowCocycle, shadow_value};
+ghost use Rattle.cocycle_core.specs.ShadowFault.{first_shadow_fault};
 
 use crate::shadow_fault::{ShadowFault, first_fault, place};
 use quandle_core::Quandle;
@@ -32,7 +32,7 @@ impl ShadowCocycle {
     ///
     /// Else the first law that the table breaks, with its lexicographically first case.
     pub fn new(quandle: &Quandle, modulus: u8, table: Vec<u8>) -> Result<ShadowCocycle, ShadowFault>
-        ensures fault { result_err result ≡ first_fault (record { quandle = quandle.now; modulus = modulus; entries = table.items }) }
+        ensures fault { result_err result ≡ first_shadow_fault (record { quandle = quandle.now; modulus = modulus; entries = table.items }) }
         ensures cocycle { IfOk result (λ c. c ≡ record { quandle = quandle.now; modulus = modulus; entries = table.items }) }
     {
         let _order = quandle.order();
@@ -60,7 +60,7 @@ impl ShadowCocycle {
     /// `θ(w, x, y)`, for a region of colour w and strands of colours x and y, all below the quandle's order.
     pub fn value(&self, w: u8, x: u8, y: u8) -> u8
         requires { (w < self.now.quandle.order) × (x < self.now.quandle.order) × (y < self.now.quandle.order) }
-        ensures value { result ≡ value self.now w x y }
+        ensures value { result ≡ shadow_value self.now w x y }
         ensures below { result < self.now.modulus }
     {
         self.table[place(self.quandle.order(), w, x, y)]

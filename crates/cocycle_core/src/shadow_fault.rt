@@ -1,8 +1,9 @@
 //! Why a table of numbers is no shadow cocycle.
 ghost use Rattle.std.specs.Prelude.{◌≡◌, ◌<◌, ◌+◌, ◌*◌, ◌%◌, ℕ, length};
 ghost use Rattle.quandle_core.specs.Fault.{or_else};
-ghost use Rattle.cocycle_core.specs.ShadowCocycle.{value, one_side, other_side};
-ghost use Rattle.cocycle_core.specs.ShadowFault.{modulus_fault, length_fault, range_fault, diagonal_fault, law_fault, first_fault, obeys};
+ghost use Rattle.cocycle_core.specs.ShadowCocycle.{shadow_value, one_side, other_side};
+ghost use Rattle.cocycle_core.specs.ShadowFault.{shadow_modulus_fault, shadow_length_fault, shadow_range_fault, shadow_diagonal_fault, shadow_law_fault};
+ghost use Rattle.cocycle_core.specs.ShadowFault.{first_shadow_fault, shadow_obeys};
 
 use quandle_core::Quandle;
 
@@ -34,14 +35,14 @@ pub(crate) fn place(order: u8, w: u8, x: u8, y: u8) -> usize
 pub(crate) fn entry(quandle: &Quandle, table: &[u8], w: u8, x: u8, y: u8) -> u8
     requires cube { length table.now ≡ quandle.now.order * quandle.now.order * quandle.now.order }
     requires place { (w < quandle.now.order) × (x < quandle.now.order) × (y < quandle.now.order) }
-    ensures { (modulus : ℕ) → result ≡ value (record { quandle = quandle.now; modulus = modulus; entries = table.now }) w x y }
+    ensures { (modulus : ℕ) → result ≡ shadow_value (record { quandle = quandle.now; modulus = modulus; entries = table.now }) w x y }
 {
     table[place(quandle.order(), w, x, y)]
 }
 
 /// The first law that the table breaks, with its lexicographically first case.
 pub(crate) fn first_fault(quandle: &Quandle, modulus: u8, table: &[u8]) -> Option<ShadowFault>
-    ensures { result ≡ first_fault (record { quandle = quandle.now; modulus = modulus; entries = table.now }) }
+    ensures { result ≡ first_shadow_fault (record { quandle = quandle.now; modulus = modulus; entries = table.now }) }
 {
     if let Some(fault) = shape_fault(quandle, modulus, table) {
         return Some(fault);
@@ -57,8 +58,8 @@ pub(crate) fn first_fault(quandle: &Quandle, modulus: u8, table: &[u8]) -> Optio
 
 /// Whether the modulus or the length is wrong.
 fn shape_fault(quandle: &Quandle, modulus: u8, table: &[u8]) -> Option<ShadowFault>
-    ensures { result ≡ or_else (modulus_fault (record { quandle = quandle.now; modulus = modulus; entries = table.now }))
-        (length_fault (record { quandle = quandle.now; modulus = modulus; entries = table.now })) }
+    ensures { result ≡ or_else (shadow_modulus_fault (record { quandle = quandle.now; modulus = modulus; entries = table.now }))
+        (shadow_length_fault (record { quandle = quandle.now; modulus = modulus; entries = table.now })) }
 {
     if modulus < 2 {
         return Some(ShadowFault::Modulus);
@@ -73,7 +74,7 @@ fn shape_fault(quandle: &Quandle, modulus: u8, table: &[u8]) -> Option<ShadowFau
 /// The first number that is not below the modulus.
 fn range_fault(quandle: &Quandle, modulus: u8, table: &[u8]) -> Option<ShadowFault>
     requires cube { length table.now ≡ quandle.now.order * quandle.now.order * quandle.now.order }
-    ensures { result ≡ range_fault (record { quandle = quandle.now; modulus = modulus; entries = table.now }) }
+    ensures { result ≡ shadow_range_fault (record { quandle = quandle.now; modulus = modulus; entries = table.now }) }
 {
     let order = quandle.order();
     for w in 0..order {
@@ -91,7 +92,7 @@ fn range_fault(quandle: &Quandle, modulus: u8, table: &[u8]) -> Option<ShadowFau
 /// The first `w` and `x` with a `θ(w, x, x)` other than 0.
 fn diagonal_fault(quandle: &Quandle, modulus: u8, table: &[u8]) -> Option<ShadowFault>
     requires cube { length table.now ≡ quandle.now.order * quandle.now.order * quandle.now.order }
-    ensures { result ≡ diagonal_fault (record { quandle = quandle.now; modulus = modulus; entries = table.now }) }
+    ensures { result ≡ shadow_diagonal_fault (record { quandle = quandle.now; modulus = modulus; entries = table.now }) }
 {
     let order = quandle.order();
     for w in 0..order {
@@ -108,7 +109,7 @@ fn diagonal_fault(quandle: &Quandle, modulus: u8, table: &[u8]) -> Option<Shadow
 fn law_fault(quandle: &Quandle, modulus: u8, table: &[u8]) -> Option<ShadowFault>
     requires some { 0 < modulus }
     requires cube { length table.now ≡ quandle.now.order * quandle.now.order * quandle.now.order }
-    ensures { result ≡ law_fault (record { quandle = quandle.now; modulus = modulus; entries = table.now }) }
+    ensures { result ≡ shadow_law_fault (record { quandle = quandle.now; modulus = modulus; entries = table.now }) }
 {
     let order = quandle.order();
     for a in 0..order {
@@ -130,7 +131,7 @@ fn obeys(quandle: &Quandle, modulus: u8, table: &[u8], a: u8, b: u8, c: u8, d: u
     requires some { 0 < modulus }
     requires cube { length table.now ≡ quandle.now.order * quandle.now.order * quandle.now.order }
     requires cases { (a < quandle.now.order) × (b < quandle.now.order) × (c < quandle.now.order) × (d < quandle.now.order) }
-    ensures { result ≡ obeys (record { quandle = quandle.now; modulus = modulus; entries = table.now }) a b c d }
+    ensures { result ≡ shadow_obeys (record { quandle = quandle.now; modulus = modulus; entries = table.now }) a b c d }
 {
     let one = one_side(quandle, table, a, b, c, d);
     let other = other_side(quandle, table, a, b, c, d);

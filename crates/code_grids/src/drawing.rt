@@ -7,7 +7,7 @@ ghost use Rattle.colour_rows.specs.Colouring.{IsColouring};
 ghost use Rattle.crossing_codes.specs.Code.{code};
 ghost use Rattle.crossing_codes.specs.CodeColouring.{is_code_colouring};
 ghost use Rattle.crossing_codes.specs.EdgeColouring.{edge_colours};
-ghost use Rattle.code_rows.specs.CodeFault.{first_fault};
+ghost use Rattle.code_rows.specs.CodeFault.{first_code_fault};
 ghost use Rattle.code_grids.specs.declared.refusal.Refusal.TheVariants as refusal;
 ghost use Rattle.code_grids.specs.Renaming.{IsRenaming};
 ghost use Rattle.code_grids.specs.Recoloured.{recoloured};
@@ -38,7 +38,7 @@ pub struct Drawing {
 /// The code may have no fault (`first_fault` of code_rows). Refused with `Columns` where the drawing takes more columns than a grid may
 /// have; with `Lost` where it turned out to be no diagram of the code, which no test has met.
 pub fn grid_of_code(alloc: Global, given: &Code) -> Result<Result<Drawing, Refusal>, OutOfMemory>
-    requires { first_fault given.now ≡ None }
+    requires { first_code_fault given.now ≡ None }
     ensures columns { IfOk result (λ answer. (n : ℕ) → answer ≡ Err (refusal.Columns n) → MAX_SIZE < n) }
     ensures same { IfOk result (λ answer. IfOk answer (λ drawing. IsRenaming given.now (code drawing.grid) drawing.renaming)) }
     ensures colourings { IfOk result (λ answer. IfOk answer (λ drawing. (t : Table) → IsQuandle t

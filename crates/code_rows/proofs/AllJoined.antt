@@ -8,10 +8,10 @@ use Rattle.crossing_codes.specs.declared.crossing.Crossing.{Crossing}
 use Rattle.code_rows.specs.declared.code_fault.CodeFault.{CodeFault}
 use Rattle.code_rows.specs.declared.code_fault.CodeFault.TheVariants.{Edge, Plane}
 use Rattle.code_rows.specs.declared.code_fault.TheConstants.{MAX_CROSSINGS}
-use Rattle.code_rows.specs.declared.row.Row.{Row}
+use Rattle.code_rows.specs.declared.row.CodeRow.{CodeRow}
 use Rattle.code_rows.specs.JoinedEdges.{is_joined, AreJoined}
 use Rattle.code_rows.specs.CodeMap.{is_plane}
-use Rattle.code_rows.specs.CodeFault.{first_fault}
+use Rattle.code_rows.specs.CodeFault.{first_code_fault}
 use Rattle.code_rows.specs.Rows.{IsCodeOf}
 use Rattle.code_rows.specs.RowsFault.{unpaired}
 use Rattle.code_rows.proofs.Faults.{edge_fault}
@@ -42,18 +42,18 @@ none_of None true is = (refl, refl)
 none_of None false is = absurd (let never : ◌≡◌ {A = Option CodeFault} (Some Plane) None = is in cc)
 
 -- what no fault says of a code of rows whose names are paired
-faultless : (rows : List Row) (loops : ℕ) (c : Code) → length rows ≤ MAX_CROSSINGS → unpaired rows loops ≡ None → IsCodeOf rows loops c
-    → first_fault c ≡ None → AreJoined c.crossings c.edges × (is_plane c.crossings ≡ true)
+faultless : (rows : List CodeRow) (loops : ℕ) (c : Code) → length rows ≤ MAX_CROSSINGS → unpaired rows loops ≡ None → IsCodeOf rows loops c
+    → first_code_fault c ≡ None → AreJoined c.crossings c.edges × (is_plane c.crossings ≡ true)
 faultless rows loops c few none of is =
     let parts = none_of (lowest (λ e. not (is_joined c.crossings (e + 1))) c.edges) (is_plane c.crossings) (only_two_faults rows loops c of few none ∙ is) in
     (none_joined c.crossings c.edges parts.0, parts.1)
 
-pub faultless_joined : (rows : List Row) (loops : ℕ) (c : Code) → length rows ≤ MAX_CROSSINGS → unpaired rows loops ≡ None → IsCodeOf rows loops c
-    → first_fault c ≡ None → AreJoined c.crossings c.edges
+pub faultless_joined : (rows : List CodeRow) (loops : ℕ) (c : Code) → length rows ≤ MAX_CROSSINGS → unpaired rows loops ≡ None → IsCodeOf rows loops c
+    → first_code_fault c ≡ None → AreJoined c.crossings c.edges
 faultless_joined rows loops c few none of is = (faultless rows loops c few none of is).0
 
-pub joined_faultless : (rows : List Row) (loops : ℕ) (b c : Code) → length rows ≤ MAX_CROSSINGS → unpaired rows loops ≡ None
-    → IsCodeOf rows loops b → IsCodeOf rows loops c → first_fault b ≡ None → AreJoined c.crossings c.edges → first_fault c ≡ None
+pub joined_faultless : (rows : List CodeRow) (loops : ℕ) (b c : Code) → length rows ≤ MAX_CROSSINGS → unpaired rows loops ≡ None
+    → IsCodeOf rows loops b → IsCodeOf rows loops c → first_code_fault b ≡ None → AreJoined c.crossings c.edges → first_code_fault c ≡ None
 joined_faultless rows loops b c few none b_of c_of is joined =
     let plane : is_plane c.crossings ≡ true =
     same_plane c.crossings b.crossings (c_of.rows ∙ sym b_of.rows) ∙ (faultless rows loops b few none b_of is).1 in

@@ -17,11 +17,11 @@ use Rattle.code_rows.specs.declared.code_fault.CodeFault.{CodeFault}
 use Rattle.code_rows.specs.declared.code_fault.CodeFault.TheVariants.{Edge, Plane}
 use Rattle.code_rows.specs.JoinedEdges.{is_joined, AreJoined}
 use Rattle.code_rows.specs.CodeMap.{is_plane}
-use Rattle.code_rows.specs.CodeFault.{first_fault}
+use Rattle.code_rows.specs.CodeFault.{first_code_fault}
 use Rattle.code_rows.proofs.Faults.{edge_fault}
-use Rattle.code_rows.specs.declared.row.Row.{Row}
+use Rattle.code_rows.specs.declared.row.CodeRow.{CodeRow}
 use Rattle.code_rows.specs.declared.row_signs.Tie.{Tie}
-use Rattle.code_rows.specs.Rows.{all_names, name_of, numbered, row_of, IsCodeOf}
+use Rattle.code_rows.specs.Rows.{all_names, name_of, numbered_row, row_of_crossing, IsCodeOf}
 use Rattle.code_rows.specs.RowsFault.{ends_of, unpaired}
 use Rattle.code_rows.specs.Refused.{IsClash}
 use Rattle.code_rows.specs.RowSigns.{turned_by, value_of, tie_of, chosen_values, with_signs, AreBest, IsBest, JoinsIfTwo, JoinsEnds, Reached}
@@ -34,7 +34,7 @@ use Rattle.code_rows.proofs.Tied.{leaves_by, tied_apart, tied_same, value_same, 
 abbrev free_tie : ℕ → Tie
 free_tie k = record { root = k; turned = false }
 
-pub free_ties_reach : (rows : List Row) → Reached rows (map free_tie (range_with_len 0 (length rows))) 0
+pub free_ties_reach : (rows : List CodeRow) → Reached rows (map free_tie (range_with_len 0 (length rows))) 0
 free_ties_reach rows =
     let n = length rows in
     record {
@@ -79,7 +79,7 @@ joined_fewer : (xs : List Crossing) (m k : ℕ) → k ≤ m → AreJoined xs m �
 joined_fewer xs m k le all e lt = all e (omega (arith, lt, le))
 
 -- the step where no edge is stuck yet and the values can differ
-goes_on : (rows : List Row) (before after : List Tie) (m : ℕ) → Reached rows before m → length after ≡ length rows
+goes_on : (rows : List CodeRow) (before after : List Tie) (m : ℕ) → Reached rows before m → length after ≡ length rows
     → ((values : ℕ → Bool) → values (length rows) ≡ true → (others : ℕ → Bool) × (others (length rows) ≡ true)
     × (map (value_of values) after ≡ map (value_of others) before) × (is_joined (with_signs rows (map (value_of others) before)) (m + 1) ≡ true))
     → ((values : ℕ → Bool) → values (length rows) ≡ true → is_joined (with_signs rows (map (value_of values) before)) (m + 1) ≡ true
@@ -107,7 +107,7 @@ goes_on rows before after m old long back kept r is joined given =
     }
 
 -- the step where an edge is stuck: the values stay, or come from others
-stays : (rows : List Row) (before after : List Tie) (m : ℕ) → Reached rows before m → length after ≡ length rows
+stays : (rows : List CodeRow) (before after : List Tie) (m : ℕ) → Reached rows before m → length after ≡ length rows
     → ((values : ℕ → Bool) → values (length rows) ≡ true → (others : ℕ → Bool) × (others (length rows) ≡ true)
     × (map (value_of values) after ≡ map (value_of others) before))
     → (r : ℕ) → r ≤ m → ((values : ℕ → Bool) → values (length rows) ≡ true → AreJoined (with_signs rows (map (value_of values) before)) r)
@@ -125,12 +125,12 @@ stays rows before after m old long back r le joined none =
       none = λ low. none;
     }
 
-same_back : (rows : List Row) (before after : List Tie) → after ≡ before → (values : ℕ → Bool) → values (length rows) ≡ true
+same_back : (rows : List CodeRow) (before after : List Tie) → after ≡ before → (values : ℕ → Bool) → values (length rows) ≡ true
     → (others : ℕ → Bool) × (others (length rows) ≡ true) × (map (value_of values) after ≡ map (value_of others) before)
 same_back rows before after same values fixed = (values, fixed, ap (λ (ts : List Tie). map (value_of values) ts) same)
 
 -- whether as many edges are joined as there were steps
-some_reached : (rows : List Row) (ties : List Tie) (m : ℕ) (old : Reached rows ties m) → (old.reached < m) ⊎ (old.reached ≡ m)
+some_reached : (rows : List CodeRow) (ties : List Tie) (m : ℕ) (old : Reached rows ties m) → (old.reached < m) ⊎ (old.reached ≡ m)
 some_reached rows ties m old =
     let le = old.within in
     elim (cases_lt old.reached m) [
@@ -139,7 +139,7 @@ some_reached rows ties m old =
     ]
 
 -- by the values of ties an edge is joined exactly where the values at its ends differ
-joined_by : (rows : List Row) (ties : List Tie) (m : ℕ) → length ties ≡ length rows → (values : ℕ → Bool) → values (length rows) ≡ true
+joined_by : (rows : List CodeRow) (ties : List Tie) (m : ℕ) → length ties ≡ length rows → (values : ℕ → Bool) → values (length rows) ≡ true
     → (one two : ℕ) → ends_of (all_names rows) (m + 1) ≡ 2 → one < two → two < length (all_names rows)
     → slice_index (all_names rows) one ≡ m + 1 → slice_index (all_names rows) two ≡ m + 1
     → is_joined (with_signs rows (map (value_of values) ties)) (m + 1) ≡ turned_by (value_of values (tie_of ties one)) (value_of values (tie_of ties two))
@@ -149,7 +149,7 @@ joined_by rows ties m long values fixed one two twice low lt first second =
     joined_is rows (map (value_of values) ties) (m + 1) one two (length-map ties (value_of values) ∙ long) twice low lt first second
     ∙ sym (ap₂ turned_by (leaves_by values ties here one (omega (arith, low, lt, all, long))) (leaves_by values ties here two (omega (arith, lt, all, long))))
 
-step_apart : (rows : List Row) (before after : List Tie) (m : ℕ) → (old : Reached rows before m) → (j : JoinsEnds (all_names rows) (m + 1) before after)
+step_apart : (rows : List CodeRow) (before after : List Tie) (m : ℕ) → (old : Reached rows before m) → (j : JoinsEnds (all_names rows) (m + 1) before after)
     → ((tie_of before j.one).root == (tie_of before j.two).root) ≡ false → Reached rows after (m + 1)
 step_apart rows before after m old j ne =
     let one = tie_of before j.one in
@@ -174,7 +174,7 @@ step_apart rows before after m old j ne =
           (λ values fixed here. apart.kept values (sym (joins values fixed) ∙ here)) old.reached is old.joined (old.given is)
     ]
 
-step_same : (rows : List Row) (before after : List Tie) (m : ℕ) → (old : Reached rows before m) → (j : JoinsEnds (all_names rows) (m + 1) before after)
+step_same : (rows : List CodeRow) (before after : List Tie) (m : ℕ) → (old : Reached rows before m) → (j : JoinsEnds (all_names rows) (m + 1) before after)
     → ((tie_of before j.one).root == (tie_of before j.two).root) ≡ true
     → (t : Bool) → turned_by (tie_of before j.one).turned (tie_of before j.two).turned ≡ t → Reached rows after (m + 1)
 step_same rows before after m old j e t turns =
@@ -205,7 +205,7 @@ step_same rows before after m old j e t turns =
         both_ways (is_joined (with_signs rows (map (value_of found.0) before)) (m + 1)) (joins found.0 found.1)
         (subst (λ (bs : List Bool). is_joined (with_signs rows bs) (m + 1) ≡ true) (sym found.2) (more m (omega arith))))
 
-step_none : (rows : List Row) (before after : List Tie) (m : ℕ) → (old : Reached rows before m) → ends_of (all_names rows) (m + 1) ≢ 2
+step_none : (rows : List CodeRow) (before after : List Tie) (m : ℕ) → (old : Reached rows before m) → ends_of (all_names rows) (m + 1) ≢ 2
     → after ≡ before → Reached rows after (m + 1)
 step_none rows before after m old ne same =
     let longer : length after ≡ length rows = ap length same ∙ old.long in
@@ -216,7 +216,7 @@ step_none rows before after m old ne same =
           (λ signs long all. absurd (ne (joined_twice rows signs (m + 1) (all m (omega (arith, is))))))
     ]
 
-pub step : (rows : List Row) (before after : List Tie) (m : ℕ) → Reached rows before m → JoinsIfTwo (all_names rows) (m + 1) before after
+pub step : (rows : List CodeRow) (before after : List Tie) (m : ℕ) → Reached rows before m → JoinsIfTwo (all_names rows) (m + 1) before after
     → Reached rows after (m + 1)
 step rows before after m old joining = elim joining [
   | inl j ↦ by j ((tie_of before j.one).root == (tie_of before j.two).root) refl
@@ -229,7 +229,7 @@ step rows before after m old joining = elim joining [
     by j false e = step_apart rows before after m old j e
 
 -- the signs by chosen values
-pub best_signs : (rows : List Row) (ties : List Tie) (chosen : List Bool) → Reached rows ties (2 * length rows)
+pub best_signs : (rows : List CodeRow) (ties : List Tie) (chosen : List Bool) → Reached rows ties (2 * length rows)
     → AreBest rows (map (value_of (chosen_values (length ties) chosen)) ties)
 best_signs rows ties chosen r =
     let values = chosen_values (length ties) chosen in
@@ -244,12 +244,12 @@ best_signs rows ties chosen r =
     }
 
 -- the code with such signs
-pub best_code : (given : List Row) (free : ℕ) (c : Code) (signs : List Bool) → IsCodeOf given free c
-    → AreBest (map (numbered (all_names given)) given) signs → c.crossings ≡ with_signs (map (numbered (all_names given)) given) signs
+pub best_code : (given : List CodeRow) (free : ℕ) (c : Code) (signs : List Bool) → IsCodeOf given free c
+    → AreBest (map (numbered_row (all_names given)) given) signs → c.crossings ≡ with_signs (map (numbered_row (all_names given)) given) signs
     → IsBest given free c
 best_code given free c signs of best is =
-    let rows = map (numbered (all_names given)) given in
-    let long : length rows ≡ length given = length-map given (numbered (all_names given)) in
+    let rows = map (numbered_row (all_names given)) given in
+    let long : length rows ≡ length given = length-map given (numbered_row (all_names given)) in
     let within = best.within in
     let edges = of.edges in
     record {
@@ -259,9 +259,9 @@ best_code given free c signs of best is =
       none = λ low b b_of all.
           let signs_b = map (λ (x : Crossing). x.positive) b.crossings in
           let back : with_signs rows signs_b ≡ b.crossings =
-          ap (λ (rs : List Row). with_signs rs signs_b) (sym b_of.rows) ∙ crossings_back b.crossings in
+          ap (λ (rs : List CodeRow). with_signs rs signs_b) (sym b_of.rows) ∙ crossings_back b.crossings in
           let count : length signs_b ≡ length rows =
-          length-map b.crossings (λ (x : Crossing). x.positive) ∙ (sym (length-map b.crossings row_of) ∙ ap length b_of.rows) in
+          length-map b.crossings (λ (x : Crossing). x.positive) ∙ (sym (length-map b.crossings row_of_crossing) ∙ ap length b_of.rows) in
           best.none (omega (arith, low, edges, long)) signs_b count (subst (λ (xs : List Crossing). AreJoined xs (best.reached + 1)) (sym back) all);
     }
 
@@ -300,13 +300,13 @@ lowest_by xs n i lt fails = by (lowest (λ e. not (is_joined xs (e + 1))) n) ref
     ]
 
 -- a code of the rows has the fault of that edge
-fault_at : (given : List Row) (free : ℕ) (c : Code) → IsCodeOf given free c → length given ≤ MAX_CROSSINGS → unpaired given free ≡ None
-    → (k : ℕ) → lowest (λ e. not (is_joined c.crossings (e + 1))) c.edges ≡ Some k → first_fault c ≡ Some (Edge (k + 1))
+fault_at : (given : List CodeRow) (free : ℕ) (c : Code) → IsCodeOf given free c → length given ≤ MAX_CROSSINGS → unpaired given free ≡ None
+    → (k : ℕ) → lowest (λ e. not (is_joined c.crossings (e + 1))) c.edges ≡ Some k → first_code_fault c ≡ Some (Edge (k + 1))
 fault_at given free c of few paired k is =
     sym (only_two_faults given free c of few paired) ∙ ap (λ (o : Option ℕ). edge_fault o (is_plane c.crossings)) is
 
-pub clash : (given : List Row) (free : ℕ) (c : Code) → IsCodeOf given free c → length given ≤ MAX_CROSSINGS → unpaired given free ≡ None
-    → IsBest given free c → (edge : ℕ) → first_fault c ≡ Some (Edge edge) → IsClash given free (name_of (all_names given) edge)
+pub clash : (given : List CodeRow) (free : ℕ) (c : Code) → IsCodeOf given free c → length given ≤ MAX_CROSSINGS → unpaired given free ≡ None
+    → IsBest given free c → (edge : ℕ) → first_code_fault c ≡ Some (Edge edge) → IsClash given free (name_of (all_names given) edge)
 clash given free c of few paired best edge fault =
     let found = some_edge (lowest (λ e. not (is_joined c.crossings (e + 1))) c.edges) (is_plane c.crossings) edge
     (only_two_faults given free c of few paired ∙ fault) in

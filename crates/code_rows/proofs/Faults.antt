@@ -11,7 +11,7 @@ use Rattle.code_rows.specs.declared.code_fault.CodeFault.{CodeFault}
 use Rattle.code_rows.specs.declared.code_fault.CodeFault.TheVariants.{Empty, Size, Count, Range, Edge, Plane}
 use Rattle.code_rows.specs.JoinedEdges.{is_joined}
 use Rattle.code_rows.specs.CodeMap.{no_crossing, is_plane}
-use Rattle.code_rows.specs.CodeFault.{is_empty, first_fault}
+use Rattle.code_rows.specs.CodeFault.{is_empty, first_code_fault}
 
 -- what is left behind the faults that the code has not
 abbrev pub edge_fault : Option ℕ → Bool → Option CodeFault
@@ -21,7 +21,7 @@ pub behind : (c : Code) → is_empty c ≡ false → length c.crossings ≤ MAX_
     → lowest (λ k. not (names_edges c.edges (slice_index_or c.crossings k no_crossing))) (length c.crossings) ≡ None
     → (edge : Option ℕ) → edge ≡ lowest (λ e. not (is_joined c.crossings (e + 1))) c.edges
     → (plane : Bool) → plane ≡ is_plane c.crossings
-    → edge_fault edge plane ≡ first_fault c
+    → edge_fault edge plane ≡ first_code_fault c
 behind c full size count named edge is plane same =
     let last = edge_fault (lowest (λ e. not (is_joined c.crossings (e + 1))) c.edges) (is_plane c.crossings) in
     let range : Option ℕ → Option CodeFault = λ o. or_next o (λ k. Range k) last in
@@ -40,8 +40,8 @@ pub behind_all : (c : Code) (xs : List Crossing) → is_empty c ≡ false → xs
     → (named : Option ℕ) → named ≡ lowest (λ k. not (names_edges c.edges (slice_index_or xs k no_crossing))) (length xs) → named ≡ None
     → (edge : Option ℕ) → edge ≡ lowest (λ e. not (is_joined xs (e + 1))) c.edges
     → (plane : Bool) → plane ≡ is_plane xs
-    → edge_fault edge plane ≡ first_fault c
+    → edge_fault edge plane ≡ first_code_fault c
 behind_all c xs full same size count named named_is none edge is plane plane_is =
     behind (record { crossings = xs; edges = c.edges; loops = c.loops }) (ap (λ (ys : List Crossing). (length ys == 0) && (c.loops == 0)) same ∙ full)
     size count (sym named_is ∙ none) edge is plane plane_is
-    ∙ ap (λ (ys : List Crossing). first_fault (record { crossings = ys; edges = c.edges; loops = c.loops })) same
+    ∙ ap (λ (ys : List Crossing). first_code_fault (record { crossings = ys; edges = c.edges; loops = c.loops })) same

@@ -14,10 +14,10 @@ use Rattle.code_rows.specs.declared.code_fault.CodeFault.{CodeFault}
 use Rattle.code_rows.specs.declared.code_fault.CodeFault.TheVariants.{Empty as CodeEmpty, Size, Count, Range, Edge as CodeEdge, Plane as CodePlane}
 use Rattle.code_rows.specs.JoinedEdges.{is_joined}
 use Rattle.code_rows.specs.CodeMap.{no_crossing, is_plane}
-use Rattle.code_rows.specs.CodeFault.{first_fault}
+use Rattle.code_rows.specs.CodeFault.{first_code_fault}
 use Rattle.code_rows.proofs.Faults.{edge_fault, behind}
-use Rattle.code_rows.specs.declared.row.Row.{Row}
-use Rattle.code_rows.specs.Rows.{all_names, edge_number, numbered, row_of, IsCodeOf}
+use Rattle.code_rows.specs.declared.row.CodeRow.{CodeRow}
+use Rattle.code_rows.specs.Rows.{all_names, edge_number, numbered_row, row_of_crossing, IsCodeOf}
 use Rattle.code_rows.specs.declared.rows_fault.RowsFault.{RowsFault}
 use Rattle.code_rows.specs.declared.rows_fault.RowsFault.TheVariants.{Empty, Edge}
 use Rattle.code_rows.specs.RowsFault.{ends_of, least_unpaired, unpaired}
@@ -48,32 +48,32 @@ is_number all n name long two =
     and_from (nat_le 1 (edge_number all name)) (nat_le (edge_number all name) (2 * n)) (le-leb 1 (edge_number all name) (omega arith))
     (le-leb (edge_number all name) (2 * n) (number_most all n name long two))
 
-pub names_long : (rows : List Row) → length (all_names rows) ≡ 4 * length rows
+pub names_long : (rows : List CodeRow) → length (all_names rows) ≡ 4 * length rows
 names_long [] = refl
 names_long (r ∷ rows) = let rest = names_long rows in omega (arith, rest)
 
 -- what stands at all ends stands at the four of a row
-at_ends : (P : ℕ → Type 0) (rows : List Row) → ((k : ℕ) → k < length (all_names rows) → P (slice_index (all_names rows) k))
-    → (d : Row) (k : ℕ) → k < length rows
+at_ends : (P : ℕ → Type 0) (rows : List CodeRow) → ((k : ℕ) → k < length (all_names rows) → P (slice_index (all_names rows) k))
+    → (d : CodeRow) (k : ℕ) → k < length rows
     → P (get_or rows k d).first × P (get_or rows k d).second × P (get_or rows k d).third × P (get_or rows k d).fourth
 at_ends P [] all d k lt = absurd (omega (arith, lt))
 at_ends P (r ∷ rows) all d zero lt = (all 0 (omega arith), all 1 (omega arith), all 2 (omega arith), all 3 (omega arith))
 at_ends P (r ∷ rows) all d (suc k) lt = at_ends P rows (λ i within. all (suc (suc (suc (suc i)))) (omega (arith, within))) d k (omega (arith, lt))
 
 -- the row of the crossing that is none
-abbrev no_row : Row
-no_row = row_of no_crossing
+abbrev no_row : CodeRow
+no_row = row_of_crossing no_crossing
 
-code_long : (rows : List Row) (loops : ℕ) (c : Code) → IsCodeOf rows loops c → length c.crossings ≡ length rows
-code_long rows loops c of = sym (length-map c.crossings row_of) ∙ (ap length of.rows ∙ length-map rows (numbered (all_names rows)))
+code_long : (rows : List CodeRow) (loops : ℕ) (c : Code) → IsCodeOf rows loops c → length c.crossings ≡ length rows
+code_long rows loops c of = sym (length-map c.crossings row_of_crossing) ∙ (ap length of.rows ∙ length-map rows (numbered_row (all_names rows)))
 
-code_row : (rows : List Row) (loops : ℕ) (c : Code) → IsCodeOf rows loops c → (k : ℕ) → k < length rows
-    → row_of (get_or c.crossings k no_crossing) ≡ numbered (all_names rows) (get_or rows k no_row)
+code_row : (rows : List CodeRow) (loops : ℕ) (c : Code) → IsCodeOf rows loops c → (k : ℕ) → k < length rows
+    → row_of_crossing (get_or c.crossings k no_crossing) ≡ numbered_row (all_names rows) (get_or rows k no_row)
 code_row rows loops c of k lt =
-    sym (get_or-map row_of c.crossings k no_crossing no_row (omega (arith, lt, code_long rows loops c of)))
-    ∙ (ap (λ (rs : List Row). get_or rs k no_row) of.rows ∙ get_or-map (numbered (all_names rows)) rows k no_row no_row lt)
+    sym (get_or-map row_of_crossing c.crossings k no_crossing no_row (omega (arith, lt, code_long rows loops c of)))
+    ∙ (ap (λ (rs : List CodeRow). get_or rs k no_row) of.rows ∙ get_or-map (numbered_row (all_names rows)) rows k no_row no_row lt)
 
-named : (rows : List Row) (loops : ℕ) (c : Code) → IsCodeOf rows loops c
+named : (rows : List CodeRow) (loops : ℕ) (c : Code) → IsCodeOf rows loops c
     → ((k : ℕ) → k < length (all_names rows) → ends_of (all_names rows) (slice_index (all_names rows) k) ≡ 2)
     → (k : ℕ) → k < length rows → names_edges (2 * length rows) (get_or c.crossings k no_crossing) ≡ true
 named rows loops c of two k lt =
@@ -84,19 +84,19 @@ named rows loops c of two k lt =
     let ends = at_ends (λ name. ends_of all name ≡ 2) rows two no_row k lt in
     let is = code_row rows loops c of k lt in
     let number = λ (name : ℕ) (e : ends_of all name ≡ 2). is_number all n name (names_long rows) e in
-    let first = ap (λ (q : Row). is_edge (2 * n) q.first) is ∙ number r.first ends.0 in
-    let second = ap (λ (q : Row). is_edge (2 * n) q.second) is ∙ number r.second ends.1 in
-    let third = ap (λ (q : Row). is_edge (2 * n) q.third) is ∙ number r.third ends.2 in
-    let fourth = ap (λ (q : Row). is_edge (2 * n) q.fourth) is ∙ number r.fourth ends.3 in
+    let first = ap (λ (q : CodeRow). is_edge (2 * n) q.first) is ∙ number r.first ends.0 in
+    let second = ap (λ (q : CodeRow). is_edge (2 * n) q.second) is ∙ number r.second ends.1 in
+    let third = ap (λ (q : CodeRow). is_edge (2 * n) q.third) is ∙ number r.third ends.2 in
+    let fourth = ap (λ (q : CodeRow). is_edge (2 * n) q.fourth) is ∙ number r.fourth ends.3 in
     ap (λ b. b && is_edge (2 * n) x.second && is_edge (2 * n) x.third && is_edge (2 * n) x.fourth) first
     ∙ (ap (λ b. b && is_edge (2 * n) x.third && is_edge (2 * n) x.fourth) second
     ∙ (ap (λ b. b && is_edge (2 * n) x.fourth) third ∙ fourth))
 
 -- a code of the rows has no faults but that of an edge and that of the plane
-pub fault_of_code : (rows : List Row) (loops : ℕ) (c : Code) → IsCodeOf rows loops c → length rows ≤ MAX_CROSSINGS
+pub fault_of_code : (rows : List CodeRow) (loops : ℕ) (c : Code) → IsCodeOf rows loops c → length rows ≤ MAX_CROSSINGS
     → (length rows == 0) && (loops == 0) ≡ false
     → ((k : ℕ) → k < length (all_names rows) → ends_of (all_names rows) (slice_index (all_names rows) k) ≡ 2)
-    → edge_fault (lowest (λ e. not (is_joined c.crossings (e + 1))) c.edges) (is_plane c.crossings) ≡ first_fault c
+    → edge_fault (lowest (λ e. not (is_joined c.crossings (e + 1))) c.edges) (is_plane c.crossings) ≡ first_code_fault c
 fault_of_code rows loops c of few full two =
     let long = code_long rows loops c of in
     let n = length c.crossings in
@@ -114,8 +114,8 @@ empty_by false None e = (refl, refl)
 empty_by false (Some name) e = absurd (let no : ◌≡◌ {A = Option RowsFault} (Some (Edge name)) None = e in cc)
 
 -- the same of rows without such a fault
-pub only_two_faults : (rows : List Row) (loops : ℕ) (c : Code) → IsCodeOf rows loops c → length rows ≤ MAX_CROSSINGS → unpaired rows loops ≡ None
-    → edge_fault (lowest (λ e. not (is_joined c.crossings (e + 1))) c.edges) (is_plane c.crossings) ≡ first_fault c
+pub only_two_faults : (rows : List CodeRow) (loops : ℕ) (c : Code) → IsCodeOf rows loops c → length rows ≤ MAX_CROSSINGS → unpaired rows loops ≡ None
+    → edge_fault (lowest (λ e. not (is_joined c.crossings (e + 1))) c.edges) (is_plane c.crossings) ≡ first_code_fault c
 only_two_faults rows loops c of few none =
     let parts = empty_by ((length rows == 0) && (loops == 0)) (least_unpaired (all_names rows)) none in
     fault_of_code rows loops c of few parts.0 (all_paired (all_names rows) parts.1)
@@ -141,12 +141,12 @@ not_plane (Some e) plane is = absurd (let no : ◌≡◌ {A = Option CodeFault} 
 not_plane None true is = absurd (let no : ◌≡◌ {A = Option CodeFault} None (Some CodePlane) = is in cc)
 not_plane None false is = refl
 
-pub late_fault : (rows : List Row) (loops : ℕ) (c : Code) → IsCodeOf rows loops c → length rows ≤ MAX_CROSSINGS → unpaired rows loops ≡ None
-    → (f : CodeFault) → first_fault c ≡ Some f → is_late f ≡ true
+pub late_fault : (rows : List CodeRow) (loops : ℕ) (c : Code) → IsCodeOf rows loops c → length rows ≤ MAX_CROSSINGS → unpaired rows loops ≡ None
+    → (f : CodeFault) → first_code_fault c ≡ Some f → is_late f ≡ true
 late_fault rows loops c of few none f is =
     late_by (lowest (λ e. not (is_joined c.crossings (e + 1))) c.edges) (is_plane c.crossings) f (only_two_faults rows loops c of few none ∙ is)
 
-pub plane_fails : (rows : List Row) (loops : ℕ) (c : Code) → IsCodeOf rows loops c → length rows ≤ MAX_CROSSINGS → unpaired rows loops ≡ None
-    → first_fault c ≡ Some CodePlane → is_plane c.crossings ≡ false
+pub plane_fails : (rows : List CodeRow) (loops : ℕ) (c : Code) → IsCodeOf rows loops c → length rows ≤ MAX_CROSSINGS → unpaired rows loops ≡ None
+    → first_code_fault c ≡ Some CodePlane → is_plane c.crossings ≡ false
 plane_fails rows loops c of few none is =
     not_plane (lowest (λ e. not (is_joined c.crossings (e + 1))) c.edges) (is_plane c.crossings) (only_two_faults rows loops c of few none ∙ is)

@@ -10,7 +10,7 @@ use Rattle.code_rows.specs.JoinedEdges.{passages_behind, passages_before, is_joi
 use Rattle.code_rows.specs.CodeMap.{no_crossing}
 use Rattle.code_rows.proofs.OtherEnds.{counted_both}
 use Rattle.code_rows.proofs.Ends.{four_ends, all_ends, no_end, before_is, behind_is, end_at, ends_long}
-use Rattle.code_rows.specs.declared.row.Row.{Row}
+use Rattle.code_rows.specs.declared.row.CodeRow.{CodeRow}
 use Rattle.code_rows.specs.Rows.{all_names}
 use Rattle.code_rows.specs.RowsFault.{ends_of}
 use Rattle.code_rows.specs.RowSigns.{turned_by, with_signs}
@@ -78,7 +78,7 @@ two_places p d (x ∷ xs) le = by (p x) refl (λ more. two_places p d xs more)
         (suc found.0, suc found.1, omega (arith, low), omega (arith, lt), found.4, found.5)
 
 -- the names at the ends of rows with signs
-names_are : (rows : List Row) (signs : List Bool) → map (λ (p : ℕ × Bool). p.0) (all_ends (with_signs rows signs)) ≡ all_names rows
+names_are : (rows : List CodeRow) (signs : List Bool) → map (λ (p : ℕ × Bool). p.0) (all_ends (with_signs rows signs)) ≡ all_names rows
 names_are [] signs = refl
 names_are (r ∷ rows) [] = ap (λ (ns : List ℕ). r.first ∷ r.second ∷ r.third ∷ r.fourth ∷ ns) (names_are rows [])
 names_are (r ∷ rows) (sign ∷ signs) = ap (λ (ns : List ℕ). r.first ∷ r.second ∷ r.third ∷ r.fourth ∷ ns) (names_are rows signs)
@@ -99,7 +99,7 @@ slot_leaves x (suc (suc zero)) lt = refl
 slot_leaves x (suc (suc (suc zero))) lt = refl
 slot_leaves x (suc (suc (suc (suc s)))) lt = absurd (omega (arith, lt))
 
-leaves_are : (rows : List Row) (signs : List Bool) → length signs ≡ length rows → (d : ℕ) → d < 4 * length rows
+leaves_are : (rows : List CodeRow) (signs : List Bool) → length signs ≡ length rows → (d : ℕ) → d < 4 * length rows
     → (get_or (all_ends (with_signs rows signs)) d no_end).1 ≡ leaves signs d
 leaves_are rows signs same d lt =
     let xs = with_signs rows signs in
@@ -131,7 +131,7 @@ told_apart false true behind before two left come =
 told_apart false false behind before two left come =
     let both : behind ≡ 2 = omega (arith, two, come) in ap (λ (m : ℕ). (m == 1) && (before == 1)) both
 
-pub joined_is : (rows : List Row) (signs : List Bool) (e one two : ℕ) → length signs ≡ length rows → ends_of (all_names rows) e ≡ 2
+pub joined_is : (rows : List CodeRow) (signs : List Bool) (e one two : ℕ) → length signs ≡ length rows → ends_of (all_names rows) e ≡ 2
     → one < two → two < length (all_names rows) → slice_index (all_names rows) one ≡ e → slice_index (all_names rows) two ≡ e
     → is_joined (with_signs rows signs) e ≡ turned_by (leaves signs one) (leaves signs two)
 joined_is rows signs e one two same twice low lt first second =
@@ -162,7 +162,7 @@ joined_is rows signs e one two same twice low lt first second =
     (omega (arith, come, a_come, b_come, behind_is e xs))
 
 -- an edge that leads from one passage to one stands at two ends
-pub joined_twice : (rows : List Row) (signs : List Bool) (e : ℕ) → is_joined (with_signs rows signs) e ≡ true → ends_of (all_names rows) e ≡ 2
+pub joined_twice : (rows : List CodeRow) (signs : List Bool) (e : ℕ) → is_joined (with_signs rows signs) e ≡ true → ends_of (all_names rows) e ≡ 2
 joined_twice rows signs e is =
     let xs = with_signs rows signs in
     let parts = and_parts (passages_behind xs e == 1) (passages_before xs e == 1) is in

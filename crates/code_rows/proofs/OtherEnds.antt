@@ -16,13 +16,13 @@ use Rattle.code_rows.specs.declared.code_fault.CodeFault.TheVariants.{Empty, Siz
 use Rattle.code_rows.specs.declared.code_fault.TheConstants.{MAX_CROSSINGS}
 use Rattle.code_rows.specs.JoinedEdges.{passages_behind, passages_before, is_joined}
 use Rattle.code_rows.specs.CodeMap.{darts, in_slot, no_crossing, edge_at, is_plane}
-use Rattle.code_rows.specs.CodeFault.{is_empty, first_fault}
+use Rattle.code_rows.specs.CodeFault.{is_empty, first_code_fault}
 use Rattle.code_rows.specs.Chains.{HaveOtherEnds}
 use Rattle.code_rows.proofs.Ends.{four_ends, all_ends, no_end, before_is, behind_is, end_at, ends_long}
 
 -- a code without a fault but that of the plane
 abbrev pub JoinsPassages : Code → Type 0
-JoinsPassages c = (first_fault c ≡ None) ⊎ (first_fault c ≡ Some Plane)
+JoinsPassages c = (first_code_fault c ≡ None) ⊎ (first_code_fault c ≡ Some Plane)
 
 -- the last of the faults
 abbrev last_fault : Bool → Option CodeFault

@@ -7,7 +7,7 @@ use Rattle.std.proofs.Math.Nat.{max-le, le-max_left, le-max_right, min-le_left, 
 use Rattle.std.proofs.lemmas.Bool.{cases_eq, cases_lt, eq-eqb, ne_eqb}
 use Rattle.std.proofs.lemmas.List.{length-map, get_or-map}
 use Rattle.std.proofs.lemmas.List.FromFn.{length-range_with_len, get_or-range_with_len}
-use Rattle.code_rows.specs.CodeMap.{united, parts_below}
+use Rattle.code_rows.specs.CodeMap.{united_parts, parts_below}
 
 -- what becomes of a number when parts a and b become one
 abbrev after : ℕ → ℕ → ℕ → ℕ
@@ -81,11 +81,11 @@ at_first ends n = record {
     own : (k : ℕ) → k < n → slice_index (range_with_len 0 n) k ≡ k
     own k lt = get_or-range_with_len 0 n k 0 lt ∙ (let e : 0 + k ≡ k = omega arith in e)
 
-united_at : (a b : ℕ) (numbers : List ℕ) (k : ℕ) → k < length numbers → slice_index (united a b numbers) k ≡ after a b (slice_index numbers k)
+united_at : (a b : ℕ) (numbers : List ℕ) (k : ℕ) → k < length numbers → slice_index (united_parts a b numbers) k ≡ after a b (slice_index numbers k)
 united_at a b numbers k lt = get_or-map (after a b) numbers k 0 0 lt
 
 one_dart_more : (ends : List ℕ) (n : ℕ) → RunBetween ends n → (d : ℕ) → d < length ends → (numbers : List ℕ) → IsNumbering ends n d numbers
-    → IsNumbering ends n (suc d) (united (slice_index numbers (d / 4)) (slice_index numbers (slice_index ends d / 4)) numbers)
+    → IsNumbering ends n (suc d) (united_parts (slice_index numbers (d / 4)) (slice_index numbers (slice_index ends d / 4)) numbers)
 one_dart_more ends n run d lt numbers old = record {
   long = length-map numbers (after a b) ∙ old.long;
   least = λ k within.
@@ -110,7 +110,7 @@ one_dart_more ends n run d lt numbers old = record {
     b = slice_index numbers (slice_index ends d / 4)
 
     new : List ℕ
-    new = united a b numbers
+    new = united_parts a b numbers
 
     inside : (d / 4 < n) × (slice_index ends d / 4 < n)
     inside = run d lt

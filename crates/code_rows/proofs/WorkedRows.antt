@@ -2,26 +2,26 @@
 use Rattle.std.proofs.Common.{◌≡◌, ◌+◌, ◌∷◌, [], ℕ, Bool, true, false, List, Some, None, map, refl}
 use Rattle.std.specs.List.{range_with_len}
 use Rattle.code_rows.specs.JoinedEdges.{is_joined}
-use Rattle.code_rows.specs.declared.row.Row.{Row}
+use Rattle.code_rows.specs.declared.row.CodeRow.{CodeRow}
 use Rattle.code_rows.specs.declared.rows_fault.RowsFault.TheVariants.{Empty, Edge}
-use Rattle.code_rows.specs.Rows.{all_names, name_of, numbered}
+use Rattle.code_rows.specs.Rows.{all_names, name_of, numbered_row}
 use Rattle.code_rows.specs.RowsFault.{unpaired}
 use Rattle.code_rows.specs.RowSigns.{with_signs}
 
-abbrev pub R : ℕ → ℕ → ℕ → ℕ → Row
+abbrev pub R : ℕ → ℕ → ℕ → ℕ → CodeRow
 R i j k l = record { first = i; second = j; third = k; fourth = l }
 
 -- names from 0, as some programs print them
-abbrev pub from_zero : List Row
+abbrev pub from_zero : List CodeRow
 from_zero = R 0 4 1 3 ∷ R 2 0 3 5 ∷ R 4 2 5 1 ∷ []
 
-numbered_from_one : map (numbered (all_names from_zero)) from_zero ≡ R 1 5 2 4 ∷ R 3 1 4 6 ∷ R 5 3 6 2 ∷ []
+numbered_from_one : map (numbered_row (all_names from_zero)) from_zero ≡ R 1 5 2 4 ∷ R 3 1 4 6 ∷ R 5 3 6 2 ∷ []
 numbered_from_one = refl
 
-abbrev pub kink : List Row
+abbrev pub kink : List CodeRow
 kink = R 70 70 9 9 ∷ []
 
-in_order_of_names : map (numbered (all_names kink)) kink ≡ R 2 2 1 1 ∷ []
+in_order_of_names : map (numbered_row (all_names kink)) kink ≡ R 2 2 1 1 ∷ []
 in_order_of_names = refl
 
 names_again : name_of (all_names kink) 1 ∷ name_of (all_names kink) 2 ∷ [] ≡ 9 ∷ 70 ∷ []
@@ -42,8 +42,8 @@ at_one_end : unpaired (R 3 9 3 8 ∷ R 9 2 8 1 ∷ []) 0 ≡ Some (Edge 1)
 at_one_end = refl
 
 -- which of the edges lead from one passage to one, when the crossings of rows have these signs
-abbrev joined : List Row → List Bool → ℕ → List Bool
-joined rows signs edges = map (λ e. is_joined (with_signs (map (numbered (all_names rows)) rows) signs) (e + 1)) (range_with_len 0 edges)
+abbrev joined : List CodeRow → List Bool → ℕ → List Bool
+joined rows signs edges = map (λ e. is_joined (with_signs (map (numbered_row (all_names rows)) rows) signs) (e + 1)) (range_with_len 0 edges)
 
 -- all edges of the trefoil, with positive crossings
 directed : joined from_zero (true ∷ true ∷ true ∷ []) 6 ≡ true ∷ true ∷ true ∷ true ∷ true ∷ true ∷ []
@@ -54,7 +54,7 @@ against : joined from_zero (true ∷ true ∷ false ∷ []) 6 ≡ true ∷ false
 against = refl
 
 -- whatever the signs, edge 3 leads to both strands below and edge 5 comes from both
-abbrev clashing : List Row
+abbrev clashing : List CodeRow
 clashing = R 3 8 5 9 ∷ R 3 9 5 8 ∷ []
 
 same_signs : joined clashing (true ∷ true ∷ []) 4 ∷ joined clashing (false ∷ false ∷ []) 4 ∷ []

@@ -14,8 +14,8 @@ abbrev pub is_empty : Code → Bool
 is_empty c = (length c.crossings == 0) && (c.loops == 0)
 
 -- empty, size, count, range, edge, plane, in this order
-abbrev pub first_fault : Code → Option CodeFault
-first_fault c =
+abbrev pub first_code_fault : Code → Option CodeFault
+first_code_fault c =
     if is_empty c then Some Empty
     else if not (nat_le (length c.crossings) MAX_CROSSINGS) then Some Size
     else if not (c.edges == 2 * length c.crossings) then Some Count

@@ -52,15 +52,15 @@ abbrev pub faces : List ℕ → ℕ
 faces ends = count_by (is_least_of_face ends) (range_with_len 0 (length ends))
 
 -- two parts become one: of their two numbers the lesser stays
-abbrev pub united : ℕ → ℕ → List ℕ → List ℕ
-united a b numbers = map (λ i. if i == max a b then min a b else i) numbers
+abbrev pub united_parts : ℕ → ℕ → List ℕ → List ℕ
+united_parts a b numbers = map (λ i. if i == max a b then min a b else i) numbers
 
 -- the number of each crossing's part, when only the edges of the first d darts join crossings
 abbrev pub parts_below : List ℕ → ℕ → ℕ → List ℕ
 parts_below ends crossings zero = range_with_len 0 crossings
 parts_below ends crossings (suc d) =
     let numbers = parts_below ends crossings d in
-    united (slice_index numbers (d / 4)) (slice_index numbers (slice_index ends d / 4)) numbers
+    united_parts (slice_index numbers (d / 4)) (slice_index numbers (slice_index ends d / 4)) numbers
 
 -- parts, each by its least crossing
 abbrev pub parts : List ℕ → ℕ → ℕ

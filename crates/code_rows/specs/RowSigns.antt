@@ -4,19 +4,19 @@ use Rattle.std.specs.Prelude.{List, [], ◌∷◌, map, length, slice_index, sli
 use Rattle.crossing_codes.specs.declared.crossing.Code.{Code}
 use Rattle.crossing_codes.specs.declared.crossing.Crossing.{Crossing}
 use Rattle.code_rows.specs.JoinedEdges.{AreJoined}
-use Rattle.code_rows.specs.declared.row.Row.{Row}
+use Rattle.code_rows.specs.declared.row.CodeRow.{CodeRow}
 use Rattle.code_rows.specs.declared.row_signs.Tie.{Tie}
 use Rattle.code_rows.specs.Rows.{with_sign, IsCodeOf}
 use Rattle.code_rows.specs.RowsFault.{ends_of}
 
 -- rows with signs, false where they are too few
-abbrev pub with_signs : List Row → List Bool → List Crossing
+abbrev pub with_signs : List CodeRow → List Bool → List Crossing
 with_signs [] signs = []
 with_signs (r ∷ rows) [] = with_sign r false ∷ with_signs rows []
 with_signs (r ∷ rows) (sign ∷ signs) = with_sign r sign ∷ with_signs rows signs
 
 -- with these signs the first edges are joined, up to one with which no signs join them
-pub record AreBest (rows : List Row) (signs : List Bool) : Type 0 where
+pub record AreBest (rows : List CodeRow) (signs : List Bool) : Type 0 where
   pub long : length signs ≡ length rows
   pub reached : ℕ
   pub within : reached ≤ 2 * length rows
@@ -24,7 +24,7 @@ pub record AreBest (rows : List Row) (signs : List Bool) : Type 0 where
   pub none : reached < 2 * length rows → (other : List Bool) → length other ≡ length rows → AreJoined (with_signs rows other) (reached + 1) → ⊥
 
 -- the same of a code among the codes of the rows
-pub record IsBest (given : List Row) (free : ℕ) (c : Code) : Type 0 where
+pub record IsBest (given : List CodeRow) (free : ℕ) (c : Code) : Type 0 where
   pub reached : ℕ
   pub within : reached ≤ c.edges
   pub joined : AreJoined c.crossings reached
@@ -78,7 +78,7 @@ JoinsIfTwo names edge before after = JoinsEnds names edge before after ⊎ ((end
 
 -- ties behind the first so many edges: by any values these are joined, up to one with which no signs join them; as long as there is none,
 -- all signs that join them are values of the ties
-pub record Reached (rows : List Row) (ties : List Tie) (edges : ℕ) : Type 0 where
+pub record Reached (rows : List CodeRow) (ties : List Tie) (edges : ℕ) : Type 0 where
   pub long : length ties ≡ length rows
   pub reached : ℕ
   pub within : reached ≤ edges

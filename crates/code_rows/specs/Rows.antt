@@ -3,13 +3,13 @@ use Rattle.std.specs.Prelude.{◌≡◌, ℕ, ◌+◌, ◌*◌, ◌/◌, ◌==�
 use Rattle.std.specs.List.{flat_map, position_or_len}
 use Rattle.crossing_codes.specs.declared.crossing.Code.{Code}
 use Rattle.crossing_codes.specs.declared.crossing.Crossing.{Crossing}
-use Rattle.code_rows.specs.declared.row.Row.{Row}
+use Rattle.code_rows.specs.declared.row.CodeRow.{CodeRow}
 
 -- the names at the four ends of edges of a row, and at all ends
-abbrev pub names_of : Row → List ℕ
+abbrev pub names_of : CodeRow → List ℕ
 names_of r = r.first ∷ r.second ∷ r.third ∷ r.fourth ∷ []
 
-abbrev pub all_names : List Row → List ℕ
+abbrev pub all_names : List CodeRow → List ℕ
 all_names rows = flat_map names_of rows
 
 -- edges are numbered from 1 in the order of their names, each of which stands at two ends
@@ -20,8 +20,8 @@ edge_number all name = count_by (λ m. nat_lt m name) all / 2 + 1
 abbrev pub name_of : List ℕ → ℕ → ℕ
 name_of all edge = slice_index all (position_or_len (λ m. edge_number all m == edge) all)
 
-abbrev pub numbered : List ℕ → Row → Row
-numbered all r =
+abbrev pub numbered_row : List ℕ → CodeRow → CodeRow
+numbered_row all r =
     record {
       first = edge_number all r.first;
       second = edge_number all r.second;
@@ -30,15 +30,15 @@ numbered all r =
     }
 
 -- the edges of a crossing
-abbrev pub row_of : Crossing → Row
-row_of x = record { first = x.first; second = x.second; third = x.third; fourth = x.fourth }
+abbrev pub row_of_crossing : Crossing → CodeRow
+row_of_crossing x = record { first = x.first; second = x.second; third = x.third; fourth = x.fourth }
 
 -- the crossing with these edges and a sign
-abbrev pub with_sign : Row → Bool → Crossing
+abbrev pub with_sign : CodeRow → Bool → Crossing
 with_sign r positive = record { first = r.first; second = r.second; third = r.third; fourth = r.fourth; positive = positive }
 
 -- the code has these rows, with their edges numbered, and so many loops
-pub record IsCodeOf (given : List Row) (free : ℕ) (c : Code) : Type 0 where
-  pub rows : map row_of c.crossings ≡ map (numbered (all_names given)) given
+pub record IsCodeOf (given : List CodeRow) (free : ℕ) (c : Code) : Type 0 where
+  pub rows : map row_of_crossing c.crossings ≡ map (numbered_row (all_names given)) given
   pub edges : c.edges ≡ 2 * length given
   pub loops : c.loops ≡ free

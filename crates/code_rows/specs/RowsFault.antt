@@ -2,7 +2,7 @@
 use Rattle.std.specs.Prelude.{◌≡◌, ◌≢◌, ◌<◌, ◌≤◌, ℕ, ◌==◌, ◌&&◌, List, length, slice_index, count_by, min, fold}
 use Rattle.std.specs.Prelude.{Option, Some, None, Result, Ok, Err, if◌then◌else◌}
 use Rattle.grid_core.specs.Fault.{or_next}
-use Rattle.code_rows.specs.declared.row.Row.{Row}
+use Rattle.code_rows.specs.declared.row.CodeRow.{CodeRow}
 use Rattle.code_rows.specs.declared.rows_fault.RowsFault.{RowsFault}
 use Rattle.code_rows.specs.declared.rows_fault.RowsFault.TheVariants.{Empty, Edge, Direction, Plane}
 use Rattle.code_rows.specs.Rows.{all_names}
@@ -28,7 +28,7 @@ pub record IsLeastUnpaired (all : List ℕ) (name : ℕ) : Type 0 where
   pub least : (k : ℕ) → k < length all → ends_of all (slice_index all k) ≢ 2 → name ≤ slice_index all k
 
 -- no row and no loop, or such a name
-abbrev pub unpaired : List Row → ℕ → Option RowsFault
+abbrev pub unpaired : List CodeRow → ℕ → Option RowsFault
 unpaired rows loops =
     if (length rows == 0) && (loops == 0) then Some Empty
     else or_next (least_unpaired (all_names rows)) (λ name. Edge name) None

@@ -3,7 +3,7 @@ ghost use Rattle.std.specs.Prelude.{◌≡◌, ◌+◌, ◌*◌, ◌≤◌, not,
 ghost use Rattle.grid_core.specs.Fault.{lowest};
 ghost use Rattle.crossing_codes.specs.CodeColouring.{names_edges};
 ghost use Rattle.code_rows.specs.CodeMap.{no_crossing};
-ghost use Rattle.code_rows.specs.CodeFault.{is_empty, first_fault};
+ghost use Rattle.code_rows.specs.CodeFault.{is_empty, first_code_fault};
 
 use crate::code_map::is_plane;
 use crate::joined_edges::lowest_unjoined;
@@ -34,7 +34,7 @@ pub enum CodeFault {
 
 /// The first reason why a code is that of no diagram in the plane, if there is one.
 pub fn first_fault(alloc: Global, code: &Code) -> Result<Option<CodeFault>, OutOfMemory>
-    ensures { IfOk result (λ fault. fault ≡ first_fault code.now) }
+    ensures { IfOk result (λ fault. fault ≡ first_code_fault code.now) }
 {
     if is_empty(code) {
         return Ok(Some(CodeFault::Empty));

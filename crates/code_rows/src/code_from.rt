@@ -1,7 +1,7 @@
 //! Codes from rows.
 ghost use Rattle.std.specs.Prelude.{◌≡◌, ◌≤◌, ◌*◌, ℕ, length, Err, None, IfOk};
 ghost use Rattle.code_rows.specs.declared.code_fault.TheConstants.{MAX_CROSSINGS};
-ghost use Rattle.code_rows.specs.CodeFault.{first_fault};
+ghost use Rattle.code_rows.specs.CodeFault.{first_code_fault};
 ghost use Rattle.code_rows.specs.Rows.{all_names, IsCodeOf};
 ghost use Rattle.code_rows.specs.RowsFault.{unpaired, as_unpaired};
 ghost use Rattle.code_rows.specs.Refused.{IsClash, IsUnplane};
@@ -9,7 +9,7 @@ ghost use Rattle.code_rows.specs.RowSigns.{with_signs, IsBest};
 
 use crate::code_fault::{CodeFault, first_fault};
 use crate::numbers::{name_of, names_of, numbered_rows};
-use crate::row::Row;
+use crate::row::CodeRow;
 use crate::row_signs::signs_of;
 use crate::rows_fault::{RowsFault, unpaired};
 use crossing_codes::{Code, Crossing};
@@ -20,12 +20,12 @@ use std::alloc::{AllocError, Global};
 /// else `Direction` where no signs give each strand a direction; else `Plane`. There may be at most `MAX_CROSSINGS` rows.
 pub fn code_of_rows(
     alloc: Global,
-    rows: &[Row],
+    rows: &[CodeRow],
     loops: u32,
 ) -> Result<Result<Code, RowsFault>, OutOfMemory>
     requires { length rows.now ≤ MAX_CROSSINGS }
     ensures code { IfOk result (λ answer. IfOk answer (λ code. IsCodeOf rows.now loops code)) }
-    ensures faultless { IfOk result (λ answer. IfOk answer (λ code. first_fault code ≡ None)) }
+    ensures faultless { IfOk result (λ answer. IfOk answer (λ code. first_code_fault code ≡ None)) }
     ensures unpaired { IfOk result (λ answer. as_unpaired answer ≡ unpaired rows.now loops) }
     ensures direction { IfOk result (λ answer. (name : ℕ) → answer ≡ Err (RowsFault.Direction name) → IsClash rows.now loops name) }
     ensures plane { IfOk result (λ answer. answer ≡ Err RowsFault.Plane → IsUnplane rows.now loops) }
@@ -49,7 +49,7 @@ pub fn code_of_rows(
 }
 
 /// A code of the rows whose first edges lead from one passage to one, as far as any signs do that.
-fn directed(alloc: Global, names: &[u32], rows: &[Row], loops: u32) -> Result<Code, OutOfMemory>
+fn directed(alloc: Global, names: &[u32], rows: &[CodeRow], loops: u32) -> Result<Code, OutOfMemory>
     requires few { length rows.now ≤ MAX_CROSSINGS }
     requires names { names.now ≡ all_names rows.now }
     ensures code { IfOk result (λ code. IsCodeOf rows.now loops code) }
@@ -66,7 +66,11 @@ fn directed(alloc: Global, names: &[u32], rows: &[Row], loops: u32) -> Result<Co
 }
 
 /// The crossings of rows with these signs.
-fn crossings_of(alloc: Global, rows: &[Row], signs: &[bool]) -> Result<Vec<Crossing>, AllocError>
+fn crossings_of(
+    alloc: Global,
+    rows: &[CodeRow],
+    signs: &[bool],
+) -> Result<Vec<Crossing>, AllocError>
     requires { length signs.now ≡ length rows.now }
     ensures { IfOk result (λ v. v.items ≡ with_signs rows.now signs.now) }
 {

@@ -2,7 +2,8 @@
 ghost use Rattle.std.specs.Prelude.{◌≡◌, ◌<◌, ◌≤◌, ◌*◌, ◌%◌, ◌==◌, min, max, count_by, length, slice_index, if◌then◌else◌, IfOk};
 ghost use Rattle.std.specs.List.{All, range_with_len};
 ghost use Rattle.code_rows.specs.declared.code_fault.TheConstants.{MAX_CROSSINGS};
-ghost use Rattle.code_rows.specs.CodeMap.{darts, in_slot, edge_at, is_other_end, twin, twins, turned, next_in_face, around_face, is_least_of_face, faces, united, parts_below, parts, is_plane};
+ghost use Rattle.code_rows.specs.CodeMap.{darts, in_slot, edge_at, is_other_end, twin, twins, turned, next_in_face, around_face, is_least_of_face, faces};
+ghost use Rattle.code_rows.specs.CodeMap.{united_parts, parts_below, parts, is_plane};
 
 use crossing_codes::Crossing;
 use memory_core::OutOfMemory;
@@ -163,7 +164,7 @@ fn join_parts(numbers: &mut [u32], ends: &[u32])
 
 /// Lets two parts become one, with the lesser of their numbers.
 fn unite(numbers: &mut [u32], one: u32, other: u32)
-    ensures { numbers.new ≡ united one other numbers.old }
+    ensures { numbers.new ≡ united_parts one other numbers.old }
 {
     for place in 0..numbers.len() {
         numbers[place] = after_uniting(numbers[place], one, other);

@@ -1,7 +1,7 @@
 //! Laws of codes and of rows, over the definitions alone.
 ghost use Rattle.std.specs.Prelude.{◌≡◌, ◌<◌, ◌≤◌, ◌↔◌, ◌⊎◌, ℕ, List, length, slice_index, Some, None};
 ghost use Rattle.code_rows.specs.declared.code_fault.TheConstants.{MAX_CROSSINGS};
-ghost use Rattle.code_rows.specs.CodeFault.{first_fault};
+ghost use Rattle.code_rows.specs.CodeFault.{first_code_fault};
 ghost use Rattle.code_rows.specs.CodeMap.{is_plane};
 ghost use Rattle.code_rows.specs.Chains.{OfOnePart, HaveOtherEnds, part_number};
 ghost use Rattle.code_rows.specs.JoinedEdges.{AreJoined};
@@ -9,7 +9,7 @@ ghost use Rattle.code_rows.specs.Rows.{IsCodeOf};
 ghost use Rattle.code_rows.specs.RowsFault.{ends_of, unpaired, least_unpaired, IsLeastUnpaired};
 
 use crate::code_fault::CodeFault;
-use crate::row::Row;
+use crate::row::CodeRow;
 use crossing_codes::{Code, Crossing};
 
 /// Two crossings are of the same part exactly where a chain of crossings leads from one to the other, each with an edge in common
@@ -27,19 +27,19 @@ pub fn a_part_is_numbered_by_its_least_crossing()
 
 /// In a code without a fault, but perhaps that of the plane, each end of an edge has another one.
 pub fn each_end_has_another()
-    ensures { (c : Code) → (first_fault c ≡ None) ⊎ (first_fault c ≡ Some CodeFault.Plane) → HaveOtherEnds c.crossings }
+    ensures { (c : Code) → (first_code_fault c ≡ None) ⊎ (first_code_fault c ≡ Some CodeFault.Plane) → HaveOtherEnds c.crossings }
 {}
 
 /// Signs don't change the map: of all codes of the same rows, either each is one of spheres or none is.
 pub fn the_map_has_no_signs()
-    ensures { (rows : List Row) (loops : ℕ) (b c : Code) → IsCodeOf rows loops b → IsCodeOf rows loops c
+    ensures { (rows : List CodeRow) (loops : ℕ) (b c : Code) → IsCodeOf rows loops b → IsCodeOf rows loops c
         → is_plane b.crossings ≡ is_plane c.crossings }
 {}
 
 /// Where one of the codes of rows has no fault, another has none exactly where each of its edges leads from one passage to one.
 pub fn other_signs_can_only_part_edges()
-    ensures { (rows : List Row) (loops : ℕ) (b c : Code) → length rows ≤ MAX_CROSSINGS → unpaired rows loops ≡ None → IsCodeOf rows loops b
-        → IsCodeOf rows loops c → first_fault b ≡ None → (first_fault c ≡ None) ↔ AreJoined c.crossings c.edges }
+    ensures { (rows : List CodeRow) (loops : ℕ) (b c : Code) → length rows ≤ MAX_CROSSINGS → unpaired rows loops ≡ None → IsCodeOf rows loops b
+        → IsCodeOf rows loops c → first_code_fault b ≡ None → (first_code_fault c ≡ None) ↔ AreJoined c.crossings c.edges }
 {}
 
 /// The name that is told is the least that doesn't stand exactly twice, and where none is told each stands twice.

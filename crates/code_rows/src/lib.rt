@@ -15,5 +15,5 @@ mod rows_fault;
 pub use code_fault::{CodeFault, MAX_CROSSINGS, first_fault};
 pub use code_from::code_of_rows;
 pub use joined_edges::are_joined;
-pub use row::Row;
+pub use row::CodeRow;
 pub use rows_fault::RowsFault;

@@ -1,13 +1,13 @@
 //! Numbers of edges.
 ghost use Rattle.std.specs.Prelude.{◌≡◌, ◌≤◌, ◌*◌, ◌==◌, ◌++◌, map, length, count_by, nat_lt, IfOk, OnOk};
 ghost use Rattle.code_rows.specs.declared.code_fault.TheConstants.{MAX_CROSSINGS};
-ghost use Rattle.code_rows.specs.Rows.{all_names, names_of, edge_number, name_of, numbered};
+ghost use Rattle.code_rows.specs.Rows.{all_names, names_of, edge_number, name_of, numbered_row};
 
-use crate::row::Row;
+use crate::row::CodeRow;
 use std::alloc::{AllocError, Global};
 
 /// The names at the ends of edges, four to a row.
-pub(crate) fn names_of(alloc: Global, rows: &[Row]) -> Result<Vec<u32>, AllocError>
+pub(crate) fn names_of(alloc: Global, rows: &[CodeRow]) -> Result<Vec<u32>, AllocError>
     ensures { IfOk result (λ v. v.items ≡ all_names rows.now) }
 {
     let mut names = Vec::new(alloc);
@@ -18,7 +18,7 @@ pub(crate) fn names_of(alloc: Global, rows: &[Row]) -> Result<Vec<u32>, AllocErr
 }
 
 /// Appends the names at the ends of a row.
-fn push_names(out: &mut Vec<u32>, row: &Row) -> Result<(), AllocError>
+fn push_names(out: &mut Vec<u32>, row: &CodeRow) -> Result<(), AllocError>
     ensures { OnOk result (out.new.items ≡ out.old.items ++ names_of row.now) }
 {
     out.push(row.first)?;
@@ -32,20 +32,20 @@ fn push_names(out: &mut Vec<u32>, row: &Row) -> Result<(), AllocError>
 pub(crate) fn numbered_rows(
     alloc: Global,
     names: &[u32],
-    rows: &[Row],
-) -> Result<Vec<Row>, AllocError>
+    rows: &[CodeRow],
+) -> Result<Vec<CodeRow>, AllocError>
     requires { length names.now ≤ 4 * MAX_CROSSINGS }
-    ensures { IfOk result (λ v. v.items ≡ map (numbered names.now) rows.now) }
+    ensures { IfOk result (λ v. v.items ≡ map (numbered_row names.now) rows.now) }
 {
     rows.iter().map(|row| numbered(names, row)).collect(alloc)
 }
 
 /// A row with its edges numbered.
-fn numbered(names: &[u32], row: &Row) -> Row
+fn numbered(names: &[u32], row: &CodeRow) -> CodeRow
     requires { length names.now ≤ 4 * MAX_CROSSINGS }
-    ensures { result ≡ numbered names.now row.now }
+    ensures { result ≡ numbered_row names.now row.now }
 {
-    Row {
+    CodeRow {
         first: edge_number(names, row.first),
         second: edge_number(names, row.second),
         third: edge_number(names, row.third),

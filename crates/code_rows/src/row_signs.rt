@@ -6,7 +6,7 @@ ghost use Rattle.code_rows.specs.Rows.{all_names};
 ghost use Rattle.code_rows.specs.RowSigns.{turned_by, value_of, tie_of, tied, replaced, chosen_values, JoinsIfTwo, Reached, AreBest};
 
 use crate::numbers::names_of;
-use crate::row::Row;
+use crate::row::CodeRow;
 use crate::rows_fault::ends_of;
 use memory_core::OutOfMemory;
 use std::alloc::{AllocError, Global};
@@ -23,7 +23,7 @@ pub(crate) struct Tie {
 /// A sign for each row, whose edges are numbered: where any signs make each edge lead from one passage to one, these do. Else they do so for
 /// the least edges, up to one with which no signs do. A component that only passes over goes from its least edge to the lesser of the two next
 /// to it; where these are one, through the earlier of the two rows. There may be at most `MAX_CROSSINGS` rows.
-pub(crate) fn signs_of(alloc: Global, rows: &[Row]) -> Result<Vec<bool>, OutOfMemory>
+pub(crate) fn signs_of(alloc: Global, rows: &[CodeRow]) -> Result<Vec<bool>, OutOfMemory>
     requires { length rows.now ≤ MAX_CROSSINGS }
     ensures { IfOk result (λ v. AreBest rows.now v.items) }
 {
@@ -35,7 +35,7 @@ pub(crate) fn signs_of(alloc: Global, rows: &[Row]) -> Result<Vec<bool>, OutOfMe
 }
 
 /// Ties by which each edge is joined, as far as that can be done.
-fn joined_ties(alloc: Global, rows: &[Row], names: &[u32]) -> Result<Vec<Tie>, AllocError>
+fn joined_ties(alloc: Global, rows: &[CodeRow], names: &[u32]) -> Result<Vec<Tie>, AllocError>
     requires few { length rows.now ≤ MAX_CROSSINGS }
     requires names { names.now ≡ all_names rows.now }
     ensures { IfOk result (λ v. Reached rows.now v.items (2 * length rows.now)) }

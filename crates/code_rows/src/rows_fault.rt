@@ -3,7 +3,7 @@ ghost use Rattle.std.specs.Prelude.{◌≡◌, ◌==◌, ◌≤◌, length, coun
 ghost use Rattle.code_rows.specs.Rows.{all_names};
 ghost use Rattle.code_rows.specs.RowsFault.{ends_of, lesser, least_unpaired, unpaired};
 
-use crate::row::Row;
+use crate::row::CodeRow;
 
 /// Why rows are no code of a diagram in the plane: the first of these that holds. Edges are told by their names.
 #[derive(Clone, Copy, Debug, PartialEq, Eq)]
@@ -19,7 +19,7 @@ pub enum RowsFault {
 }
 
 /// The fault that rows have before their strands are directed, if they have one.
-pub(crate) fn unpaired(rows: &[Row], names: &[u32], loops: u32) -> Option<RowsFault>
+pub(crate) fn unpaired(rows: &[CodeRow], names: &[u32], loops: u32) -> Option<RowsFault>
     requires { names.now ≡ all_names rows.now }
     ensures { result ≡ unpaired rows.now loops }
 {

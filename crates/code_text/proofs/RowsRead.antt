@@ -5,7 +5,7 @@ use Rattle.text_lines.specs.Lines.{NumberedLine, Text}
 use Rattle.text_items.specs.declared.fault.TextFault.{TextFault}
 use Rattle.text_items.specs.declared.fault.TextFault.TheVariants as fault
 use Rattle.text_items.specs.Reading.{Fails}
-use Rattle.code_rows.specs.declared.row.Row.{Row}
+use Rattle.code_rows.specs.declared.row.CodeRow.{CodeRow}
 use Rattle.code_text.specs.RowLines.{says_something, with_rows, are_behind, rows_among, rows_from}
 
 -- of the tokens that say something, the first
@@ -23,13 +23,13 @@ abbrev pub line_then : NumberedLine → Text → Text
 line_then line rest = record { lines = line ∷ rest.lines; ending = rest.ending }
 
 -- one line more
-pub rows_more : (most : ℕ) (before rows : List Row) (line : NumberedLine) (rest : Text) → are_behind (line_then line rest) ≡ false
+pub rows_more : (most : ℕ) (before rows : List CodeRow) (line : NumberedLine) (rest : Text) → are_behind (line_then line rest) ≡ false
     → with_rows most before line ≡ Ok rows → rows_from most before (line_then line rest) ≡ rows_from most rows rest
 unfolding rows_from
 rows_more most before rows line rest behind read = rw (behind, read) refl
 
 -- a bad line
-pub rows_fail : (most : ℕ) (before : List Row) (e : TextFault) (line : NumberedLine) (rest : Text) → are_behind (line_then line rest) ≡ false
+pub rows_fail : (most : ℕ) (before : List CodeRow) (e : TextFault) (line : NumberedLine) (rest : Text) → are_behind (line_then line rest) ≡ false
     → Fails e (with_rows most before line) → Fails e (rows_from most before (line_then line rest))
 unfolding rows_from
 rows_fail most before fault.OutOfMemory line rest behind read = tt
@@ -37,17 +37,17 @@ rows_fail most before (fault.Malformed n) line rest behind read = rw (behind, re
 rows_fail most before (fault.Limit n) line rest behind read = rw (behind, read) refl
 
 -- a line that stands behind the rows
-pub rows_end : (most : ℕ) (before : List Row) (lines : List NumberedLine) (ending : ℕ) → are_behind (record { lines = lines; ending = ending }) ≡ true
+pub rows_end : (most : ℕ) (before : List CodeRow) (lines : List NumberedLine) (ending : ℕ) → are_behind (record { lines = lines; ending = ending }) ≡ true
     → rows_among most before lines ending ≡ Ok (before, record { lines = lines; ending = ending })
 rows_end most before [] ending behind = refl
 rows_end most before (line ∷ lines) ending behind = rw behind refl
 
-pub rows_behind : (most : ℕ) (before : List Row) (text : Text) → are_behind text ≡ true → rows_from most before text ≡ Ok (before, text)
+pub rows_behind : (most : ℕ) (before : List CodeRow) (text : Text) → are_behind text ≡ true → rows_from most before text ≡ Ok (before, text)
 unfolding rows_from
 rows_behind most before text behind = rows_end most before text.lines text.ending behind
 
 -- no line is left
-pub rows_done : (most : ℕ) (before : List Row) (text : Text) → text.lines ≡ [] → rows_from most before text ≡ Ok (before, text)
+pub rows_done : (most : ℕ) (before : List CodeRow) (text : Text) → text.lines ≡ [] → rows_from most before text ≡ Ok (before, text)
 unfolding rows_from
 rows_done most before text none = by text.lines none
   where

@@ -8,10 +8,10 @@ use Rattle.std.proofs.lemmas.List.Folds.{list_all_at}
 use Rattle.std.proofs.lemmas.List.FromFn.{get_or-range_with_len, length-range_with_len}
 use Rattle.crossing_codes.specs.declared.crossing.Code.{Code}
 use Rattle.crossing_codes.specs.declared.crossing.Crossing.{Crossing}
-use Rattle.code_rows.specs.declared.row.Row.{Row}
-use Rattle.code_rows.specs.Rows.{row_of, IsCodeOf}
+use Rattle.code_rows.specs.declared.row.CodeRow.{CodeRow}
+use Rattle.code_rows.specs.Rows.{row_of_crossing, IsCodeOf}
 use Rattle.code_text.specs.declared.gauss_lines.GaussPassage.{GaussPassage}
-use Rattle.code_text.specs.GaussCheck.{crossing_of, are_alike, is_there, is_through, is_passed_twice, all_of, is_gauss_of, agrees}
+use Rattle.code_text.specs.GaussCheck.{crossing_of, are_alike, is_there, is_through, is_passed_twice, all_of, is_gauss_of, agrees_with_gauss}
 use Rattle.code_text.specs.GaussSigns.{sign_by, positive_at, AreSigned}
 
 alike_same : (b c : Bool) → are_alike b c ≡ true → b ≡ c
@@ -47,24 +47,25 @@ first_sign xs (p ∷ ps) k sign there once =
 
 -- ---- crossings by their rows and signs
 
-crossing_is : (x y : Crossing) → row_of x ≡ row_of y → x.positive ≡ y.positive → x ≡ y
+crossing_is : (x y : Crossing) → row_of_crossing x ≡ row_of_crossing y → x.positive ≡ y.positive → x ≡ y
 crossing_is x y rows sign =
     λ i. record { first = (rows i).first; second = (rows i).second; third = (rows i).third; fourth = (rows i).fourth; positive = sign i }
 
-abbrev first_or : Row → List Row → Row
+abbrev first_or : CodeRow → List CodeRow → CodeRow
 first_or r [] = r
 first_or r (s ∷ rows) = s
 
-abbrev behind_first : List Row → List Row
+abbrev behind_first : List CodeRow → List CodeRow
 behind_first [] = []
 behind_first (s ∷ rows) = rows
 
-pub same_crossings : (xs ys : List Crossing) → map row_of xs ≡ map row_of ys → ((k : ℕ) → k < length xs → positive_at xs k ≡ positive_at ys k) → xs ≡ ys
+pub same_crossings : (xs ys : List Crossing) → map row_of_crossing xs ≡ map row_of_crossing ys → ((k : ℕ) → k < length xs → positive_at xs k ≡ positive_at ys k)
+    → xs ≡ ys
 same_crossings [] [] rows signs = refl
 same_crossings [] (y ∷ ys) rows signs = absurd (let wrong = rows in cc)
 same_crossings (x ∷ xs) [] rows signs = absurd (let wrong = rows in cc)
 same_crossings (x ∷ xs) (y ∷ ys) rows signs =
-    let first = crossing_is x y (ap (first_or (row_of x)) rows) (signs 0 (omega arith)) in
+    let first = crossing_is x y (ap (first_or (row_of_crossing x)) rows) (signs 0 (omega arith)) in
     let others = same_crossings xs ys (ap behind_first rows) (λ k lt. signs (suc k) (omega (arith, lt))) in
     λ i. first i ∷ others i
 
@@ -82,24 +83,24 @@ passed ps n k all lt = by (is_passed_twice ps (k + 1)) refl
     by false is = absurd (true≢false (sym all ∙ list_all_at (is_passed_twice ps) (range_with_len 1 n) k 0
         (omega (arith, lt, length-range_with_len 1 n)) (ap (is_passed_twice ps) here ∙ is)))
 
-signs_forced : (ps : List GaussPassage) (xs signed other : List Crossing) → AreSigned ps xs signed → map row_of other ≡ map row_of xs
+signs_forced : (ps : List GaussPassage) (xs signed other : List Crossing) → AreSigned ps xs signed → map row_of_crossing other ≡ map row_of_crossing xs
     → list_all (is_there other) ps ≡ true → list_all (is_passed_twice ps) (range_with_len 1 (length other)) ≡ true → other ≡ signed
 signs_forced ps xs signed other are rows there twice =
-    let long : length other ≡ length xs = sym (length-map other row_of) ∙ (ap length rows ∙ length-map xs row_of) in
+    let long : length other ≡ length xs = sym (length-map other row_of_crossing) ∙ (ap length rows ∙ length-map xs row_of_crossing) in
     same_crossings other signed (rows ∙ sym are.rows) (λ k lt.
     let once = eqb-true _ _ (and_parts _ _ (passed ps (length other) k twice lt)).0 in
     let here = first_sign other ps (k + 1) (positive_at xs k) there once in
     let back : (k + 1) - 1 ≡ k = omega arith in
     sym (are.signs k (omega (arith, lt, long)) ∙ (here ∙ ap (positive_at other) back)))
 
-gauss_asked : (c : Code) (walks : List (List GaussPassage)) → 0 < length walks → agrees c walks ≡ true → is_gauss_of c.crossings walks ≡ true
+gauss_asked : (c : Code) (walks : List (List GaussPassage)) → 0 < length walks → agrees_with_gauss c walks ≡ true → is_gauss_of c.crossings walks ≡ true
 gauss_asked c [] some is = absurd (omega (arith, some))
 gauss_asked c (walk ∷ walks) some is = is
 
 -- a code of the same rows that has the lines is the one with their signs
-pub code_forced : (given : List Row) (loops : ℕ) (walks : List (List GaussPassage)) (found said other : Code) → 0 < length walks
+pub code_forced : (given : List CodeRow) (loops : ℕ) (walks : List (List GaussPassage)) (found said other : Code) → 0 < length walks
     → IsCodeOf given loops found → AreSigned (all_of walks) found.crossings said.crossings → said.edges ≡ found.edges → said.loops ≡ found.loops
-    → IsCodeOf given loops other → agrees other walks ≡ true → other ≡ said
+    → IsCodeOf given loops other → agrees_with_gauss other walks ≡ true → other ≡ said
 code_forced given loops walks found said other some of are edges free other_of has =
     let whole = and_parts _ _ (gauss_asked other walks some has) in
     let there = and_parts _ _ whole.1 in

@@ -1,6 +1,6 @@
 -- Worked texts of codes, by computing.
 use Rattle.std.proofs.Common.{◌≡◌, refl, [], ◌∷◌, codes, Bool, true, false, Ok, Err}
-use Rattle.code_rows.specs.declared.row.Row.{Row}
+use Rattle.code_rows.specs.declared.row.CodeRow.{CodeRow}
 use Rattle.crossing_codes.specs.declared.crossing.Crossing.{Crossing}
 use Rattle.text_items.specs.declared.fault.TextFault.TheVariants.{Malformed, Limit}
 use Rattle.code_text.specs.declared.gauss_lines.GaussPassage.{GaussPassage}
@@ -11,7 +11,7 @@ use Rattle.code_text.specs.GaussLines.{walk_at, walks_from}
 use Rattle.code_text.specs.CodeReading.{counted_item, perhaps_counted, rows_item, code_in, code_text_of}
 
 -- a kink, as it is pasted, and with all that may stand around it
-abbrev kink : Row
+abbrev kink : CodeRow
 kink = record { first = 1; second = 1; third = 2; fourth = 2 }
 
 pasted : code_text_of (codes "PD[X[1,1,2,2]]\n") ≡ Ok (record { rows = kink ∷ []; loops = 0; walks = [] })

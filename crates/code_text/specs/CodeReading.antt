@@ -5,7 +5,7 @@ use Rattle.text_items.specs.declared.fault.TextFault.{TextFault}
 use Rattle.text_items.specs.declared.fault.TextFault.TheVariants.{Malformed}
 use Rattle.text_items.specs.Reading.{◌>>=◌, next_line, text_end, word, last_number, at_most}
 use Rattle.code_rows.specs.declared.code_fault.TheConstants.{MAX_CROSSINGS}
-use Rattle.code_rows.specs.declared.row.Row.{Row}
+use Rattle.code_rows.specs.declared.row.CodeRow.{CodeRow}
 use Rattle.code_text.specs.declared.gauss_lines.GaussPassage.{GaussPassage}
 use Rattle.code_text.specs.declared.code_reading.CodeText.{CodeText}
 use Rattle.code_text.specs.declared.code_reading.TheConstants.{MAX_LOOPS}
@@ -40,18 +40,18 @@ next_number [] ending = ending
 next_number (line ∷ lines) ending = line.number
 
 -- there are as many rows as were told
-abbrev pub are_due : Option ℕ → List Row → Bool
+abbrev pub are_due : Option ℕ → List CodeRow → Bool
 are_due (Some due) rows = length rows == due
 are_due None rows = true
 
-unfoldable pub rows_item : Text → Result (List Row × Text) TextFault
+unfoldable pub rows_item : Text → Result (List CodeRow × Text) TextFault
 rows_item text = do
   due ← perhaps_counted (codes "crossings") MAX_CROSSINGS text
   rows ← rows_from (most_rows due.0) [] due.1
   if are_due due.0 rows.0 then Ok rows else Err (Malformed (next_number rows.1.lines rows.1.ending))
 
 -- signed Gauss lines stand behind rows alone
-abbrev pub walks_behind : List Row → Text → Result (List (List GaussPassage) × Text) TextFault
+abbrev pub walks_behind : List CodeRow → Text → Result (List (List GaussPassage) × Text) TextFault
 walks_behind [] text = Ok ([], text)
 walks_behind (row ∷ rows) text = walks_from [] text
 

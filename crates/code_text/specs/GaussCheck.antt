@@ -25,8 +25,8 @@ abbrev pub is_there : List Crossing → GaussPassage → Bool
 is_there xs p = nat_le 1 p.crossing && (nat_le p.crossing (length xs) && are_alike (crossing_of xs p).positive p.positive)
 
 -- the edge that leaves the one passage leads to the other
-abbrev pub leads_to : List Crossing → GaussPassage → GaussPassage → Bool
-leads_to xs p q = leaves_on (crossing_of xs p) p.over == comes_on (crossing_of xs q) q.over
+abbrev pub edge_leads_to : List Crossing → GaussPassage → GaussPassage → Bool
+edge_leads_to xs p q = leaves_on (crossing_of xs p) p.over == comes_on (crossing_of xs q) q.over
 
 abbrev pub next_of : GaussPassage → List GaussPassage → GaussPassage
 next_of first [] = first
@@ -35,7 +35,7 @@ next_of first (p ∷ ps) = p
 -- each leads to the next, and the last to the first
 abbrev pub lead_on : List Crossing → GaussPassage → List GaussPassage → Bool
 lead_on xs first [] = true
-lead_on xs first (p ∷ ps) = leads_to xs p (next_of first ps) && lead_on xs first ps
+lead_on xs first (p ∷ ps) = edge_leads_to xs p (next_of first ps) && lead_on xs first ps
 
 abbrev pub goes_round : List Crossing → List GaussPassage → Bool
 goes_round xs [] = true
@@ -60,6 +60,6 @@ is_gauss_of xs walks =
     && (list_all (is_passed_twice (all_of walks)) (range_with_len 1 (length xs)) && list_all (goes_round xs) walks))
 
 -- where there are no lines, they ask for nothing
-abbrev pub agrees : Code → List (List GaussPassage) → Bool
-agrees c [] = true
-agrees c (walk ∷ walks) = is_gauss_of c.crossings (walk ∷ walks)
+abbrev pub agrees_with_gauss : Code → List (List GaussPassage) → Bool
+agrees_with_gauss c [] = true
+agrees_with_gauss c (walk ∷ walks) = is_gauss_of c.crossings (walk ∷ walks)

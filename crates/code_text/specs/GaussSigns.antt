@@ -2,7 +2,7 @@
 use Rattle.std.specs.Prelude.{◌≡◌, ◌<◌, ℕ, ◌+◌, ◌==◌, Bool, List, [], ◌∷◌, map, length, slice_index_or, if◌then◌else◌}
 use Rattle.crossing_codes.specs.declared.crossing.Crossing.{Crossing}
 use Rattle.code_rows.specs.CodeMap.{no_crossing}
-use Rattle.code_rows.specs.Rows.{row_of}
+use Rattle.code_rows.specs.Rows.{row_of_crossing}
 use Rattle.code_text.specs.declared.gauss_lines.GaussPassage.{GaussPassage}
 
 -- the sign that the first passage through crossing k has, or this one where there is none
@@ -15,5 +15,5 @@ positive_at xs k = (slice_index_or xs k no_crossing).positive
 
 -- the same rows, with the signs of the passages
 pub record AreSigned (ps : List GaussPassage) (xs ys : List Crossing) : Type 0 where
-  pub rows : map row_of ys ≡ map row_of xs
+  pub rows : map row_of_crossing ys ≡ map row_of_crossing xs
   pub signs : (k : ℕ) → k < length xs → positive_at ys k ≡ sign_by ps (k + 1) (positive_at xs k)

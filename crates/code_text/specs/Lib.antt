@@ -7,7 +7,7 @@ pub mod CodeReading
 pub mod TextGrid
 pub use Rattle.text_lines.specs.Lines
 pub use Rattle.text_lines.specs.Tokens
-pub use Rattle.text_lines.specs.Numbers
+pub use Rattle.text_lines.specs.NumberTokens
 pub use Rattle.text_items.specs.Reading
 pub use Rattle.knot_text.specs.Printed
 pub use Rattle.crossing_codes.specs.Code

@@ -3,13 +3,13 @@ use Rattle.std.specs.Prelude.{ℕ, ◌%◌, ◌==◌, ◌||◌, Bool, not, List,
 use Rattle.std.specs.List.{list_any}
 use Rattle.std.specs.Str.{bytes_eq}
 use Rattle.text_lines.specs.Lines.{NumberedLine, Text, begins}
-use Rattle.text_lines.specs.Numbers.{number_of}
+use Rattle.text_lines.specs.NumberTokens.{number_of}
 use Rattle.text_items.specs.declared.fault.TextFault.{TextFault}
 use Rattle.text_items.specs.declared.fault.TextFault.TheVariants.{Malformed, Limit}
 use Rattle.text_items.specs.Reading.{◌>>=◌, each_token}
-use Rattle.text_items.specs.Numbers.{is_long}
+use Rattle.text_items.specs.NumberLines.{is_long}
 use Rattle.code_rows.specs.declared.code_fault.TheConstants.{MAX_CROSSINGS}
-use Rattle.code_rows.specs.declared.row.Row.{Row}
+use Rattle.code_rows.specs.declared.row.CodeRow.{CodeRow}
 
 -- the words that stand in front of a crossing, and in front of a code, say nothing
 abbrev pub says_something : List ℕ → Bool
@@ -20,32 +20,32 @@ abbrev pub row_numbers : NumberedLine → Result (List ℕ) TextFault
 row_numbers line = each_token number_of line.number (filter says_something line.tokens)
 
 -- four numbers to a row
-abbrev pub rows_of : List ℕ → List Row
-rows_of (a ∷ b ∷ c ∷ d ∷ names) = record { first = a; second = b; third = c; fourth = d } ∷ rows_of names
-rows_of names = []
+abbrev pub rows_of_numbers : List ℕ → List CodeRow
+rows_of_numbers (a ∷ b ∷ c ∷ d ∷ names) = record { first = a; second = b; third = c; fourth = d } ∷ rows_of_numbers names
+rows_of_numbers names = []
 
 -- what is wrong with line n when it is read, where the rows are then these, of which there may be so many: a limit, then the content
-abbrev pub ruled : ℕ → ℕ → Bool → List Row → Result (List Row) TextFault
-ruled most n has_long rows =
+abbrev pub ruled_rows : ℕ → ℕ → Bool → List CodeRow → Result (List CodeRow) TextFault
+ruled_rows most n has_long rows =
     if has_long || nat_lt MAX_CROSSINGS (length rows) then Err (Limit n)
     else if nat_lt most (length rows) then Err (Malformed n) else Ok rows
 
 -- the rows before, and those of a line: form, limits, content
-unfoldable pub with_rows : ℕ → List Row → NumberedLine → Result (List Row) TextFault
+unfoldable pub with_rows : ℕ → List CodeRow → NumberedLine → Result (List CodeRow) TextFault
 with_rows most before line = do
   names ← row_numbers line
-  if length names % 4 == 0 then ruled most line.number (list_any is_long names) (before ++ rows_of names) else Err (Malformed line.number)
+  if length names % 4 == 0 then ruled_rows most line.number (list_any is_long names) (before ++ rows_of_numbers names) else Err (Malformed line.number)
 
 -- a line that stands behind the rows is next
 abbrev pub are_behind : Text → Bool
 are_behind text = begins (codes "loops") text || begins (codes "gauss") text
 
 -- the rows before, and those of all lines up to the first that stands behind the rows
-abbrev pub rows_among : ℕ → List Row → List NumberedLine → ℕ → Result (List Row × Text) TextFault
+abbrev pub rows_among : ℕ → List CodeRow → List NumberedLine → ℕ → Result (List CodeRow × Text) TextFault
 rows_among most before [] ending = Ok (before, record { lines = []; ending = ending })
 rows_among most before (line ∷ lines) ending =
     if are_behind (record { lines = line ∷ lines; ending = ending }) then Ok (before, record { lines = line ∷ lines; ending = ending })
     else with_rows most before line >>= λ rows. rows_among most rows lines ending
 
-unfoldable pub rows_from : ℕ → List Row → Text → Result (List Row × Text) TextFault
+unfoldable pub rows_from : ℕ → List CodeRow → Text → Result (List CodeRow × Text) TextFault
 rows_from most before text = rows_among most before text.lines text.ending

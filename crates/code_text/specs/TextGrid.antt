@@ -4,7 +4,7 @@ use Rattle.grid_core.specs.Diagram.{Diagram, IsGrid}
 use Rattle.grid_core.specs.declared.grid.TheConstants.{MAX_SIZE}
 use Rattle.crossing_codes.specs.declared.crossing.Code.{Code}
 use Rattle.crossing_codes.specs.Code.{code}
-use Rattle.code_rows.specs.CodeFault.{first_fault}
+use Rattle.code_rows.specs.CodeFault.{first_code_fault}
 use Rattle.code_rows.specs.declared.rows_fault.RowsFault.{RowsFault}
 use Rattle.code_rows.specs.Rows.{IsCodeOf}
 use Rattle.code_rows.specs.RowsFault.{unpaired}
@@ -15,15 +15,15 @@ use Rattle.code_text.specs.declared.refusal.TextRefusal.{TextRefusal}
 use Rattle.code_text.specs.declared.refusal.TextRefusal.TheVariants.{Rows, Gauss, Columns, Lost}
 use Rattle.code_rows.specs.declared.rows_fault.RowsFault.TheVariants as rows
 use Rattle.knot_text.specs.Printed.{grid_text}
-use Rattle.code_text.specs.GaussCheck.{agrees}
+use Rattle.code_text.specs.GaussCheck.{agrees_with_gauss}
 use Rattle.code_text.specs.CodeReading.{code_text_of}
 
 -- each name stands at two ends, the code has the rows and the loops of the text, and no fault, and the Gauss lines are its own
 pub record Says (t : CodeText) (c : Code) : Type 0 where
   pub paired : unpaired t.rows t.loops ≡ None
   pub rows : IsCodeOf t.rows t.loops c
-  pub faultless : first_fault c ≡ None
-  pub gauss : agrees c t.walks ≡ true
+  pub faultless : first_code_fault c ≡ None
+  pub gauss : agrees_with_gauss c t.walks ≡ true
 
 -- the grid's own code is one that the text says, under other names of crossings and edges
 pub record IsDiagramOf (t : CodeText) (d : Diagram) : Type 0 where
@@ -39,7 +39,7 @@ SaysNone t = (c : Code) → Says t c → ⊥
 pub record HasWrongLines (t : CodeText) : Type 0 where
   pub lines : 0 < length t.walks
   pub paired : unpaired t.rows t.loops ≡ None
-  pub code : (c : Code) × IsCodeOf t.rows t.loops c × (first_fault c ≡ None)
+  pub code : (c : Code) × IsCodeOf t.rows t.loops c × (first_code_fault c ≡ None)
   pub none : SaysNone t
 
 -- a fault of the rows: of their names exactly the first; behind these `Direction` where no directions fit, and `Plane` where

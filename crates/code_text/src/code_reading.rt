@@ -7,7 +7,7 @@ ghost use Rattle.code_text.specs.CodeReading.{counted_item, perhaps_counted, mos
 use crate::blanks::blanked;
 use crate::gauss_lines::{GaussPassage, walks_from};
 use crate::row_lines::rows_from;
-use code_rows::{MAX_CROSSINGS, Row};
+use code_rows::{CodeRow, MAX_CROSSINGS};
 use grid_core::MAX_SIZE;
 use memory_core::Items;
 use std::alloc::Global;
@@ -22,7 +22,7 @@ pub const MAX_LOOPS: usize = MAX_SIZE / 2;
 #[derive(Drop)]
 pub struct CodeText {
     /// The edges at each crossing, by the names that the text has for them.
-    pub rows: Items<Row>,
+    pub rows: Items<CodeRow>,
     /// How many components have no crossing.
     pub loops: u32,
     /// The passages of each component that has a crossing, where the text has signed Gauss lines.
@@ -62,7 +62,7 @@ fn most_rows(due: Option<u32>) -> usize
 }
 
 /// Whether there are as many rows as were told.
-fn are_due(due: Option<u32>, rows: &[Row]) -> bool
+fn are_due(due: Option<u32>, rows: &[CodeRow]) -> bool
     ensures { result ≡ are_due due rows.now }
 {
     match due {
@@ -83,7 +83,7 @@ fn next_number(lines: &mut Lines) -> usize
 
 /// The rows, and how many they are where that is told.
 #[tactic(auto, unfolding(crate::specs::CodeReading::rows_item))]
-fn rows_item(alloc: Global, lines: &mut Lines) -> Result<Vec<Row>, TextFault>
+fn rows_item(alloc: Global, lines: &mut Lines) -> Result<Vec<CodeRow>, TextFault>
     ensures rows { Gives (λ v. (v.items, lines.new)) result (rows_item lines.old) }
     ensures few { IfOk result (λ v. length v.items ≤ MAX_CROSSINGS) }
 {
@@ -100,7 +100,7 @@ fn rows_item(alloc: Global, lines: &mut Lines) -> Result<Vec<Row>, TextFault>
 /// Signed Gauss lines, which stand behind rows alone.
 fn walks_behind(
     alloc: Global,
-    rows: &[Row],
+    rows: &[CodeRow],
     lines: &mut Lines,
 ) -> Result<Vec<Items<GaussPassage>>, TextFault>
     ensures { Gives (λ v. (v.items, lines.new)) result (walks_behind rows.now lines.old) }

@@ -2,7 +2,8 @@
 ghost use Rattle.std.specs.Prelude.{◌≡◌, ◌≤◌, ◌<◌, ◌+◌, ◌==◌, ◌&&◌, ◌++◌, ℕ, true, List, length, count_by, map, IsTrue, IfOk, OnOk};
 ghost use Rattle.std.specs.List.{list_all, range_with_len};
 ghost use Rattle.code_rows.specs.declared.code_fault.TheConstants.{MAX_CROSSINGS};
-ghost use Rattle.code_text.specs.GaussCheck.{crossing_of, comes_on, leaves_on, are_alike, is_there, leads_to, next_of, lead_on, goes_round, all_of, is_through, is_passed_twice, is_gauss_of, agrees};
+ghost use Rattle.code_text.specs.GaussCheck.{crossing_of, comes_on, leaves_on, are_alike, is_there, edge_leads_to, next_of, lead_on, goes_round, all_of};
+ghost use Rattle.code_text.specs.GaussCheck.{is_through, is_passed_twice, is_gauss_of, agrees_with_gauss};
 
 use crate::gauss_lines::GaussPassage;
 use crossing_codes::{Code, Crossing};
@@ -78,7 +79,7 @@ fn all_there(crossings: &[Crossing], passages: &[GaussPassage]) -> bool
 
 /// Whether the edge that leaves the one passage leads to the other.
 fn leads_to(crossings: &[Crossing], from: GaussPassage, to: GaussPassage) -> bool
-    ensures { result ≡ leads_to crossings.now from to }
+    ensures { result ≡ edge_leads_to crossings.now from to }
 {
     leaves_on(&crossing_of(crossings, from), from.over)
         == comes_on(&crossing_of(crossings, to), to.over)
@@ -193,7 +194,7 @@ fn is_gauss_of(
 pub(crate) fn agrees(code: &Code, walks: &[Items<GaussPassage>], passages: &[GaussPassage]) -> bool
     requires few { length code.now.crossings ≤ MAX_CROSSINGS }
     requires all { passages.now ≡ all_of walks.now }
-    ensures { result ≡ agrees code.now walks.now }
+    ensures { result ≡ agrees_with_gauss code.now walks.now }
 {
     walks.is_empty() || is_gauss_of(code.crossings.as_slice(), walks, passages)
 }

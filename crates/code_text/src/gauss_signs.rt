@@ -4,7 +4,7 @@ ghost use Rattle.code_rows.specs.declared.code_fault.TheConstants.{MAX_CROSSINGS
 ghost use Rattle.code_text.specs.GaussSigns.{sign_by, AreSigned};
 
 use crate::gauss_lines::GaussPassage;
-use code_rows::Row;
+use code_rows::CodeRow;
 use crossing_codes::Crossing;
 use std::alloc::{AllocError, Global};
 
@@ -34,7 +34,7 @@ pub(crate) fn signed(
     let mut found = Vec::new(alloc);
     for k in 0..crossings.len() {
         let positive = sign_by(passages, k + 1, crossings[k].positive);
-        found.push(Row::of(&crossings[k]).with_sign(positive))?;
+        found.push(CodeRow::of(&crossings[k]).with_sign(positive))?;
     }
     Ok(found)
 }

@@ -2,11 +2,11 @@
 ghost use Rattle.std.specs.Prelude.{◌≡◌, ◌≤◌, ◌++◌, [], length, IfOk, OnOk};
 ghost use Rattle.std.specs.List.{list_any};
 ghost use Rattle.code_rows.specs.declared.code_fault.TheConstants.{MAX_CROSSINGS};
-ghost use Rattle.text_items.specs.Numbers.{is_long};
+ghost use Rattle.text_items.specs.NumberLines.{is_long};
 ghost use Rattle.text_items.specs.Reading.{Gives};
-ghost use Rattle.code_text.specs.RowLines.{says_something, row_numbers, rows_of, ruled, with_rows, are_behind, rows_from};
+ghost use Rattle.code_text.specs.RowLines.{says_something, row_numbers, rows_of_numbers, ruled_rows, with_rows, are_behind, rows_from};
 
-use code_rows::{MAX_CROSSINGS, Row};
+use code_rows::{CodeRow, MAX_CROSSINGS};
 use std::alloc::{AllocError, Global};
 use text_items::TextFault;
 use text_items::reading::MAX_NUMBER;
@@ -37,12 +37,12 @@ fn row_numbers(alloc: Global, line: &mut Line) -> Result<Vec<u32>, TextFault>
 }
 
 /// Appends the rows of these numbers, four to a row.
-fn push_rows(rows: &mut Vec<Row>, names: &[u32]) -> Result<(), AllocError>
-    ensures { OnOk result (rows.new.items ≡ rows.old.items ++ rows_of names.now) }
+fn push_rows(rows: &mut Vec<CodeRow>, names: &[u32]) -> Result<(), AllocError>
+    ensures { OnOk result (rows.new.items ≡ rows.old.items ++ rows_of_numbers names.now) }
 {
     let mut left = names;
     while let [first, second, third, fourth, after @ ..] = left {
-        rows.push(Row {
+        rows.push(CodeRow {
             first: *first,
             second: *second,
             third: *third,
@@ -65,7 +65,7 @@ fn any_long(names: &[u32]) -> bool
 fn push_line(
     alloc: Global,
     most: usize,
-    rows: &mut Vec<Row>,
+    rows: &mut Vec<CodeRow>,
     line: &mut Line,
 ) -> Result<(), TextFault>
     ensures rows { Gives (λ _. rows.new.items) result (with_rows most rows.old.items line.old) }
@@ -99,7 +99,7 @@ pub(crate) fn rows_from(
     alloc: Global,
     most: usize,
     lines: &mut Lines,
-) -> Result<Vec<Row>, TextFault>
+) -> Result<Vec<CodeRow>, TextFault>
     ensures rows { Gives (λ v. (v.items, lines.new)) result (rows_from most [] lines.old) }
     ensures few { IfOk result (λ v. length v.items ≤ MAX_CROSSINGS) }
 {

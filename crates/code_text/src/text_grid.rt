@@ -1,7 +1,7 @@
 //! Grid diagrams of texts of codes.
 ghost use Rattle.std.specs.Prelude.{◌≡◌, ◌≤◌, None, length, IfOk, IfSome, IfNone};
 ghost use Rattle.code_rows.specs.declared.code_fault.TheConstants.{MAX_CROSSINGS};
-ghost use Rattle.code_rows.specs.CodeFault.{first_fault};
+ghost use Rattle.code_rows.specs.CodeFault.{first_code_fault};
 ghost use Rattle.code_rows.specs.Rows.{IsCodeOf};
 ghost use Rattle.code_rows.specs.RowsFault.{unpaired};
 ghost use Rattle.code_text.specs.TextGrid.{Says, HasWrongLines, IsAnswer};
@@ -47,7 +47,7 @@ fn said_by(alloc: Global, text: &CodeText, code: Code) -> Result<Option<Code>, O
     requires few { length text.now.rows ≤ MAX_CROSSINGS }
     requires paired { unpaired text.now.rows text.now.loops ≡ None }
     requires rows { IsCodeOf text.now.rows text.now.loops code }
-    requires faultless { first_fault code ≡ None }
+    requires faultless { first_code_fault code ≡ None }
     ensures some { IfOk result (λ found. IfSome found (λ said. Says text.now said)) }
     ensures none { IfOk result (λ found. IfNone found (HasWrongLines text.now)) }
 {

@@ -20,7 +20,7 @@ use Rattle.quandle_core.specs.Quandle.{Table, IsQuandle}
 use Rattle.colour_rows.specs.Walk.{passed_rightward, passed_leftward}
 use Rattle.colour_rows.specs.Colouring.{IsColouring}
 use Rattle.quandle_core.specs.Bijection.{IsBijection}
-use Rattle.colour_laws.specs.Carried.{carried, columns_exchanged, is_nested_in, gone_left, gone_right}
+use Rattle.colour_laws.specs.Carried.{carried, colours_exchanged, is_nested_in, gone_left, gone_right}
 use Rattle.colour_laws.proofs.ColumnLists.{Column}
 use Rattle.colour_laws.proofs.ColouredColumns.{IsColouringByColumns, act, columns, ys_of, IsTradableAt, neighbours_traded, columns_traded, pair_traded, traded_colours}
 use Rattle.colour_laws.proofs.Exchanges.{pair_outer, pair_inner, pair_disjoint}
@@ -150,7 +150,7 @@ pair_is t d f c la lb free rest =
 -- the exchange, place by place
 pub exchanged_is : (t : Table) (d : Diagram) (c : ℕ) → c + 1 < size d → IsGrid d → AreFree (coloured_at c d.x d.o []) (coloured_at (c + 1) d.x d.o [])
     → (f : List ℕ) → IsColouringByColumns t d f → length (traded_colours t c d f) ≡ size d
-    → traded_colours t c d f ≡ columns_exchanged t c d f
+    → traded_colours t c d f ≡ colours_exchanged t c d f
 exchanged_is t d c lt grid free f colouring long =
     let colour : (i : ℕ) → i < size d → slice_index f i < t.order = λ i at. All-get_or (λ y. y < t.order) f i 0
     (omega (arith, colouring.size, at)) colouring.below in

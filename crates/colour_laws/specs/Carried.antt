@@ -52,8 +52,8 @@ gone_right t d colours c =
     if is_nested_in d c (c + 1) then passed_rightward t (is_up d (c + 1)) (slice_index colours c) (slice_index colours (c + 1)) else slice_index colours c
 
 -- exchange of columns c and c + 1, which trade places with their colours
-abbrev pub columns_exchanged : Table → ℕ → Diagram → List ℕ → List ℕ
-columns_exchanged t c d colours =
+abbrev pub colours_exchanged : Table → ℕ → Diagram → List ℕ → List ℕ
+colours_exchanged t c d colours =
     by_column (size d) (λ i. if i == c then gone_left t d colours c else if i == c + 1 then gone_right t d colours c else slice_index colours i)
 
 -- stabilisation in column c: both columns of the block have the old column's colour
@@ -68,7 +68,7 @@ destabilised c d colours = by_column (size d - 1) (λ i. slice_index colours (if
 abbrev pub carried : Table → Diagram → Move → List ℕ → List ℕ
 carried t d (ShiftColumns k) colours = columns_shifted k d colours
 carried t d (ShiftRows k) colours = rows_shifted t k d colours
-carried t d (ExchangeColumns c) colours = columns_exchanged t c d colours
+carried t d (ExchangeColumns c) colours = colours_exchanged t c d colours
 carried t d (ExchangeRows r) colours = colours
 carried t d (SlideColumns c) colours = colours
 carried t d (SlideRows r) colours = colours

@@ -2,7 +2,7 @@
 ghost use Rattle.std.specs.Prelude.{◌≡◌, None};
 ghost use Rattle.grid_core.specs.Diagram.{Diagram};
 ghost use Rattle.grid_moves.specs.Step.{Step};
-ghost use Rattle.grid_moves.specs.MoveFault.{first_fault};
+ghost use Rattle.grid_moves.specs.MoveFault.{first_move_fault};
 ghost use Rattle.colour_rows.specs.Colouring.{IsColouring};
 ghost use Rattle.colour_laws.specs.Carried.{carried};
 
@@ -23,7 +23,7 @@ use quandle_core::Quandle;
 ///
 /// Takes no memory. Each column is touched a bounded number of times; a shift of rows by k does so k times.
 pub fn carry(grid: &Grid, step: Move, quandle: &Quandle, colours: &Colouring) -> Colouring
-    requires legal { first_fault grid.now step ≡ None }
+    requires legal { first_move_fault grid.now step ≡ None }
     requires colouring { IsColouring quandle.now grid.now colours.now.items }
     ensures carried { result.items ≡ carried quandle.now grid.now step colours.now.items }
     ensures colouring { (e : Diagram) → Step grid.now step e → IsColouring quandle.now e result.items }
@@ -34,7 +34,7 @@ pub fn carry(grid: &Grid, step: Move, quandle: &Quandle, colours: &Colouring) ->
 
 /// The colours, by the kind of move.
 fn by_kind(grid: &Grid, step: Move, quandle: &Quandle, colours: &Colouring) -> Colouring
-    requires legal { first_fault grid.now step ≡ None }
+    requires legal { first_move_fault grid.now step ≡ None }
     requires colouring { IsColouring quandle.now grid.now colours.now.items }
     ensures { result.items ≡ carried quandle.now grid.now step colours.now.items }
 {

@@ -4,7 +4,7 @@ ghost use Rattle.grid_core.specs.Diagram.{size};
 ghost use Rattle.grid_core.specs.Parts.{ends, is_up};
 ghost use Rattle.colour_rows.specs.Walk.{passed_rightward, passed_leftward};
 ghost use Rattle.colour_rows.specs.Colouring.{AreColours, IsColouring};
-ghost use Rattle.colour_laws.specs.Carried.{is_nested_in, gone_left, gone_right, columns_exchanged, bottom_row_shifted, after_row_shift, rows_shifted};
+ghost use Rattle.colour_laws.specs.Carried.{is_nested_in, gone_left, gone_right, colours_exchanged, bottom_row_shifted, after_row_shift, rows_shifted};
 
 use crate::blocks::copy_of;
 use colour_rows::{Colouring, passed_leftward, passed_rightward};
@@ -20,7 +20,7 @@ pub(crate) fn exchange_columns(
 ) -> Colouring
     requires inside { c + 1 < size grid.now }
     requires colours { AreColours (size grid.now) quandle.now.order colours.now.items }
-    ensures { result.items ≡ columns_exchanged quandle.now c grid.now colours.now.items }
+    ensures { result.items ≡ colours_exchanged quandle.now c grid.now colours.now.items }
 {
     let mut carried = copy_of(colours);
     trade(grid, quandle, carried.as_mut_slice(), c);
@@ -31,7 +31,7 @@ pub(crate) fn exchange_columns(
 fn trade(grid: &Grid, quandle: &Quandle, colours: &mut [u8], c: u8)
     requires inside { c + 1 < size grid.now }
     requires colours { AreColours (size grid.now) quandle.now.order colours.old }
-    ensures { colours.new ≡ columns_exchanged quandle.now c grid.now colours.old }
+    ensures { colours.new ≡ colours_exchanged quandle.now c grid.now colours.old }
 {
     let left = gone_left(grid, quandle, colours, c);
     let right = gone_right(grid, quandle, colours, c);

@@ -16,7 +16,7 @@ use Rattle.colour_list.proofs.Counts.{count-cons, count-map, count_agree_on}
 use Rattle.colour_list.proofs.Choices.{listed_most}
 use Rattle.cocycle_core.specs.ShadowCocycle.{ShadowCochain, IsShadowCocycle}
 use Rattle.colour_weights.specs.ShadowWeight.{shadow_weight}
-use Rattle.colour_weights.specs.ShadowWalkSum.{weight_by_rows}
+use Rattle.colour_weights.specs.ShadowWalkSum.{shadow_weight_by_rows}
 use Rattle.colour_weights.specs.ShadowWeights.{shadows_of, shadow_weights}
 use Rattle.colour_weights.proofs.ShadowCarried.{by_rows}
 use Rattle.colour_weights.proofs.Countings.{count_push, one_more}
@@ -55,19 +55,19 @@ partly_room t d counts f n v lt =
     omega (arith, partly_at t d counts f n v lt, few, length-range_with_len 0 n)
 
 -- one colour more of the outer region
-pub partly_more : (t : ShadowCochain) (d : Diagram) (counts f : List ℕ) (n u : ℕ) → u ≡ weight_by_rows t d (take (size d) f) n → u < t.modulus
+pub partly_more : (t : ShadowCochain) (d : Diagram) (counts f : List ℕ) (n u : ℕ) → u ≡ shadow_weight_by_rows t d (take (size d) f) n → u < t.modulus
     → slice_set (partly t d counts f n) u (slice_index (partly t d counts f n) u + 1) ≡ partly t d counts f (n + 1)
 partly_more t d counts f n u is lt =
     one_more (λ v. get_or counts v 0 + count_by (has_shadow_weight t d v f) (range_with_len 0 n))
     (λ v. get_or counts v 0 + count_by (has_shadow_weight t d v f) (range_with_len 0 (n + 1))) t.modulus u lt
     (let one = count_longer (has_shadow_weight t d u f) n in
     let here : ◌≡◌ {A = ℕ} (cond (has_shadow_weight t d u f n) 1 0) 1 =
-    cond-true (has_shadow_weight t d u f n) 1 0 (eq-eqb (weight_by_rows t d (take (size d) f) n) u (sym is)) in
+    cond-true (has_shadow_weight t d u f n) 1 0 (eq-eqb (shadow_weight_by_rows t d (take (size d) f) n) u (sym is)) in
     omega (arith, one, here))
     (λ v other.
     let one = count_longer (has_shadow_weight t d v f) n in
     let none : ◌≡◌ {A = ℕ} (cond (has_shadow_weight t d v f n) 1 0) 0 =
-    cond-false (has_shadow_weight t d v f n) 1 0 (ne_eqb (weight_by_rows t d (take (size d) f) n) v (λ e. other (sym e ∙ sym is))) in
+    cond-false (has_shadow_weight t d v f n) 1 0 (ne_eqb (shadow_weight_by_rows t d (take (size d) f) n) v (λ e. other (sym e ∙ sym is))) in
     omega (arith, one, none))
   where
     count_longer : (p : ℕ → Bool) (n : ℕ) → count_by p (range_with_len 0 (n + 1)) ≡ count_by p (range_with_len 0 n) + cond (p n) 1 0
@@ -113,9 +113,9 @@ swapped p us (f ∷ level) =
 shadow_count : (t : ShadowCochain) (d : Diagram) → IsShadowCocycle t → IsGrid d → (level : List (List ℕ)) → IsLevelAt t.quandle d (size d) level → (v u : ℕ)
     → u < t.quandle.order → count_by (λ f. has_shadow_weight t d v f u) level ≡ shadows_of t d v u
 shadow_count t d cocycle grid level l v u lt =
-    sym (count-map (λ g. weight_by_rows t d g u == v) (take (size d)) level)
-    ∙ (count_agree_on (λ g. weight_by_rows t d g u == v) (λ g. shadow_weight t d g u == v) (cut d level)
-    (All-weaker (IsColouring t.quandle d) (λ g. (weight_by_rows t d g u == v) ≡ (shadow_weight t d g u == v))
+    sym (count-map (λ g. shadow_weight_by_rows t d g u == v) (take (size d)) level)
+    ∙ (count_agree_on (λ g. shadow_weight_by_rows t d g u == v) (λ g. shadow_weight t d g u == v) (cut d level)
+    (All-weaker (IsColouring t.quandle d) (λ g. (shadow_weight_by_rows t d g u == v) ≡ (shadow_weight t d g u == v))
     (λ g c. ap (λ (n : ℕ). n == v) (sym (by_rows t cocycle d grid g c u lt))) (cut d level) (cut_colourings t.quandle d grid level l))
     ∙ same_counts (λ g. shadow_weight t d g u == v) (cut d level) (colourings t.quandle d) (cut_as_often t.quandle d cocycle.quandle grid level l)
     (listed_most t.quandle d))

@@ -10,7 +10,7 @@ use Rattle.quandle_core.specs.Quandle.{Table}
 use Rattle.colour_list.specs.Level.{spread}
 use Rattle.colour_seeds.specs.declared.progress.Step.{Step}
 use Rattle.colour_seeds.specs.declared.counting.TheConstants.{MAX_CANDIDATES}
-use Rattle.colour_seeds.specs.Fits.{few_ways}
+use Rattle.colour_seeds.specs.FewWays.{few_ways}
 use Rattle.colour_seeds.specs.Plan.{seeds_in}
 use Rattle.colour_seeds.specs.Leaves.{leaves}
 use Rattle.colour_seeds.proofs.Settlings.{one_times}

@@ -7,9 +7,9 @@ use Rattle.quandle_core.specs.Quandle.{Table}
 use Rattle.colour_rows.specs.declared.equation.Pass.{Pass}
 use Rattle.colour_rows.specs.Equation.{equation}
 use Rattle.colour_rows.specs.Walk.{passed_rightward}
-use Rattle.colour_weights.specs.declared.shadow_walker.Walker.{Walker}
+use Rattle.colour_weights.specs.declared.shadow_walker.ShadowWalker.{ShadowWalker}
 use Rattle.cocycle_core.specs.ShadowCocycle.{ShadowCochain}
-use Rattle.colour_weights.specs.ShadowWalkSum.{stepped}
+use Rattle.colour_weights.specs.ShadowWalkSum.{shadow_stepped}
 use Rattle.colour_numbers.specs.declared.lane.Lane.{Lane}
 
 -- the columns from one on and before another that cover row r
@@ -30,22 +30,22 @@ abbrev pub AreLanes : Diagram → List Lane → Type 0
 AreLanes d lanes = lanes ≡ map (lane d) (range_with_len 0 (size d))
 
 -- the region left of the left end, from the outer one, and the region on the right-hand side of the left end
-abbrev pub region_left : Table → Lane → List ℕ → ℕ → ℕ
-region_left t l colours outer = fold (λ w (p : Pass). passed_rightward t p.up w (slice_index colours p.column)) outer l.before.items
+abbrev pub lane_region_left : Table → Lane → List ℕ → ℕ → ℕ
+lane_region_left t l colours outer = fold (λ w (p : Pass). passed_rightward t p.up w (slice_index colours p.column)) outer l.before.items
 
-abbrev pub region_start : Table → Lane → List ℕ → ℕ → ℕ
-region_start t l colours outer =
-    if l.up then passed_rightward t l.up (region_left t l colours outer) (slice_index colours l.row.left_end) else region_left t l colours outer
+abbrev pub lane_region_start : Table → Lane → List ℕ → ℕ → ℕ
+lane_region_start t l colours outer =
+    if l.up then passed_rightward t l.up (lane_region_left t l colours outer) (slice_index colours l.row.left_end) else lane_region_left t l colours outer
 
 -- the walker that has come to the right end
-abbrev pub walked : ShadowCochain → Lane → List ℕ → ℕ → Walker
-walked t l colours outer =
-    fold (λ (at : Walker) (p : Pass). stepped t p.up at (slice_index colours p.column))
-    (record { colour = slice_index colours l.row.left_end; region = region_start t.quandle l colours outer; sum = 0 }) l.passed.items
+abbrev pub lane_walked : ShadowCochain → Lane → List ℕ → ℕ → ShadowWalker
+lane_walked t l colours outer =
+    fold (λ (at : ShadowWalker) (p : Pass). shadow_stepped t p.up at (slice_index colours p.column))
+    (record { colour = slice_index colours l.row.left_end; region = lane_region_start t.quandle l colours outer; sum = 0 }) l.passed.items
 
 abbrev pub lane_weight : ShadowCochain → Lane → List ℕ → ℕ → ℕ
 lane_weight t l colours outer =
-    if l.rightward then (walked t l colours outer).sum else (t.modulus - (walked t l colours outer).sum) % t.modulus
+    if l.rightward then (lane_walked t l colours outer).sum else (t.modulus - (lane_walked t l colours outer).sum) % t.modulus
 
-abbrev pub weight_of : ShadowCochain → List Lane → List ℕ → ℕ → ℕ
-weight_of t lanes colours outer = sum_by (λ l. lane_weight t l colours outer) lanes % t.modulus
+abbrev pub weight_by_lanes : ShadowCochain → List Lane → List ℕ → ℕ → ℕ
+weight_by_lanes t lanes colours outer = sum_by (λ l. lane_weight t l colours outer) lanes % t.modulus

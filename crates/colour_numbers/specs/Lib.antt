@@ -4,7 +4,7 @@ pub mod Tallies
 pub mod Shadows
 pub mod Numbers
 pub use Rattle.colour_seeds.specs.Plan
-pub use Rattle.colour_seeds.specs.Fits
+pub use Rattle.colour_seeds.specs.FewWays
 pub use Rattle.colour_weights.specs.Weights
 pub use Rattle.colour_weights.specs.ShadowWeights
 pub use Rattle.grid_core.specs.Diagram

@@ -25,7 +25,7 @@ weighed w d v f = count_by (has_weight w d v) (f ∷ [])
 
 -- by a shadow cocycle, and with an outer region of this colour, it is v
 abbrev pub has_shadow_weight : ShadowCochain → Diagram → ℕ → List ℕ → ℕ → Bool
-has_shadow_weight t d v f outer = shadows.weight_by_rows t d (take (size d) f) outer == v
+has_shadow_weight t d v f outer = shadows.shadow_weight_by_rows t d (take (size d) f) outer == v
 
 -- with how many colours of the outer region
 abbrev pub outers_of : ShadowCochain → Diagram → ℕ → List ℕ → ℕ

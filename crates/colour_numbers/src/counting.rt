@@ -2,7 +2,7 @@
 ghost use Rattle.std.specs.Prelude.{◌≡◌, ◌<◌, ◌-◌, ◌^◌, ◌⊎◌, ◌∷◌, [], Err, IfOk, IfErr, false, length};
 ghost use Rattle.colour_list.specs.Listing.{colourings};
 ghost use Rattle.colour_weights.specs.Weights.{weights};
-ghost use Rattle.colour_seeds.specs.Fits.{few_ways};
+ghost use Rattle.colour_seeds.specs.FewWays.{few_ways};
 ghost use Rattle.colour_seeds.specs.Plan.{IsPlan, seeds_in};
 ghost use Rattle.colour_seeds.specs.declared.counting.CountFault.TheVariants as fault;
 ghost use Rattle.colour_numbers.specs.Numbers.{choices_of, coloured_by, fits_by, numbers};

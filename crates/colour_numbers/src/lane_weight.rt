@@ -1,9 +1,9 @@
 //! The weight of a list of colours by lanes.
 ghost use Rattle.std.specs.Prelude.{◌≡◌, ◌<◌, true, false, length};
 ghost use Rattle.std.specs.List.{All};
-ghost use Rattle.colour_weights.specs.ShadowWalkSum.{stepped};
-ghost use Rattle.colour_numbers.specs.Lanes.{region_left, region_start, walked, lane_weight, weight_of};
-ghost use Rattle.colour_numbers.specs.Weighing.{LaneFits, walker_of};
+ghost use Rattle.colour_weights.specs.ShadowWalkSum.{shadow_stepped};
+ghost use Rattle.colour_numbers.specs.Lanes.{lane_region_left, lane_region_start, lane_walked, lane_weight, weight_by_lanes};
+ghost use Rattle.colour_numbers.specs.Weighing.{LaneIsWithin, walker_of};
 
 use crate::lane::Lane;
 use colour_rows::passed_rightward;
@@ -21,10 +21,10 @@ pub struct Standing {
 
 /// The sum of the weights of lanes, mod the modulus, under a list of colours and a colour of the outer region.
 pub(crate) fn weight_of(cocycle: &ShadowCocycle, lanes: &[Lane], colours: &[u8], outer: u8) -> u8
-    requires within { All (LaneFits (length colours.now)) lanes.now }
+    requires within { All (LaneIsWithin (length colours.now)) lanes.now }
     requires below { All (λ y. y < cocycle.now.quandle.order) colours.now }
     requires outer { outer < cocycle.now.quandle.order }
-    ensures weight { result ≡ weight_of cocycle.now lanes.now colours.now outer }
+    ensures weight { result ≡ weight_by_lanes cocycle.now lanes.now colours.now outer }
     ensures below { result < cocycle.now.modulus }
 {
     let modulus = cocycle.modulus();
@@ -37,7 +37,7 @@ pub(crate) fn weight_of(cocycle: &ShadowCocycle, lanes: &[Lane], colours: &[u8],
 
 /// The weight of a lane.
 fn lane_weight(cocycle: &ShadowCocycle, lane: &Lane, colours: &[u8], outer: u8) -> u8
-    requires within { LaneFits (length colours.now) lane.now }
+    requires within { LaneIsWithin (length colours.now) lane.now }
     requires below { All (λ y. y < cocycle.now.quandle.order) colours.now }
     requires outer { outer < cocycle.now.quandle.order }
     ensures weight { result ≡ lane_weight cocycle.now lane.now colours.now outer }
@@ -53,10 +53,10 @@ fn lane_weight(cocycle: &ShadowCocycle, lane: &Lane, colours: &[u8], outer: u8) 
 
 /// The walk of a lane from its left end to its right end.
 fn walked(cocycle: &ShadowCocycle, lane: &Lane, colours: &[u8], outer: u8) -> Standing
-    requires within { LaneFits (length colours.now) lane.now }
+    requires within { LaneIsWithin (length colours.now) lane.now }
     requires below { All (λ y. y < cocycle.now.quandle.order) colours.now }
     requires outer { outer < cocycle.now.quandle.order }
-    ensures walked { walker_of result ≡ walked cocycle.now lane.now colours.now outer }
+    ensures walked { walker_of result ≡ lane_walked cocycle.now lane.now colours.now outer }
     ensures below { result.sum < cocycle.now.modulus }
 {
     let _modulus = cocycle.modulus();
@@ -76,10 +76,10 @@ fn walked(cocycle: &ShadowCocycle, lane: &Lane, colours: &[u8], outer: u8) -> St
 
 /// The colour of the region on the right-hand side of the left end of a lane: behind an up column, before a down one.
 fn region_start(quandle: &Quandle, lane: &Lane, colours: &[u8], outer: u8) -> u8
-    requires within { LaneFits (length colours.now) lane.now }
+    requires within { LaneIsWithin (length colours.now) lane.now }
     requires below { All (λ y. y < quandle.now.order) colours.now }
     requires outer { outer < quandle.now.order }
-    ensures region { result ≡ region_start quandle.now lane.now colours.now outer }
+    ensures region { result ≡ lane_region_start quandle.now lane.now colours.now outer }
     ensures below { result < quandle.now.order }
 {
     let _order = quandle.order();
@@ -93,10 +93,10 @@ fn region_start(quandle: &Quandle, lane: &Lane, colours: &[u8], outer: u8) -> u8
 
 /// The colour of the region left of the left end of a lane.
 fn region_left(quandle: &Quandle, lane: &Lane, colours: &[u8], outer: u8) -> u8
-    requires within { LaneFits (length colours.now) lane.now }
+    requires within { LaneIsWithin (length colours.now) lane.now }
     requires below { All (λ y. y < quandle.now.order) colours.now }
     requires outer { outer < quandle.now.order }
-    ensures region { result ≡ region_left quandle.now lane.now colours.now outer }
+    ensures region { result ≡ lane_region_left quandle.now lane.now colours.now outer }
     ensures below { result < quandle.now.order }
 {
     let _order = quandle.order();
@@ -111,7 +111,7 @@ fn region_left(quandle: &Quandle, lane: &Lane, colours: &[u8], outer: u8) -> u8
 fn stepped(cocycle: &ShadowCocycle, up: bool, at: Standing, y: u8) -> Standing
     requires colours { (at.colour < cocycle.now.quandle.order) × (at.region < cocycle.now.quandle.order) × (y < cocycle.now.quandle.order) }
     requires sum { at.sum < cocycle.now.modulus }
-    ensures stepped { walker_of result ≡ stepped cocycle.now up (walker_of at) y }
+    ensures stepped { walker_of result ≡ shadow_stepped cocycle.now up (walker_of at) y }
     ensures below { (result.colour < cocycle.now.quandle.order) × (result.region < cocycle.now.quandle.order) × (result.sum < cocycle.now.modulus) }
 {
     if up {
@@ -125,7 +125,7 @@ fn stepped(cocycle: &ShadowCocycle, up: bool, at: Standing, y: u8) -> Standing
 fn stepped_up(cocycle: &ShadowCocycle, at: Standing, y: u8) -> Standing
     requires colours { (at.colour < cocycle.now.quandle.order) × (at.region < cocycle.now.quandle.order) × (y < cocycle.now.quandle.order) }
     requires sum { at.sum < cocycle.now.modulus }
-    ensures stepped { walker_of result ≡ stepped cocycle.now true (walker_of at) y }
+    ensures stepped { walker_of result ≡ shadow_stepped cocycle.now true (walker_of at) y }
     ensures below { (result.colour < cocycle.now.quandle.order) × (result.region < cocycle.now.quandle.order) × (result.sum < cocycle.now.modulus) }
 {
     let modulus = cocycle.modulus();
@@ -145,7 +145,7 @@ fn stepped_up(cocycle: &ShadowCocycle, at: Standing, y: u8) -> Standing
 fn stepped_down(cocycle: &ShadowCocycle, at: Standing, y: u8) -> Standing
     requires colours { (at.colour < cocycle.now.quandle.order) × (at.region < cocycle.now.quandle.order) × (y < cocycle.now.quandle.order) }
     requires sum { at.sum < cocycle.now.modulus }
-    ensures stepped { walker_of result ≡ stepped cocycle.now false (walker_of at) y }
+    ensures stepped { walker_of result ≡ shadow_stepped cocycle.now false (walker_of at) y }
     ensures below { (result.colour < cocycle.now.quandle.order) × (result.region < cocycle.now.quandle.order) × (result.sum < cocycle.now.modulus) }
 {
     let modulus = cocycle.modulus();

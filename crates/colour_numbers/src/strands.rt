@@ -2,7 +2,7 @@
 ghost use Rattle.std.specs.Prelude.{◌≡◌, ◌⊎◌, Err, IfErr, IfOk, false};
 ghost use Rattle.colour_weights.specs.Weights.{weights};
 ghost use Rattle.colour_seeds.specs.declared.counting.CountFault.TheVariants as fault;
-ghost use Rattle.colour_seeds.specs.Fits.{few_ways};
+ghost use Rattle.colour_seeds.specs.FewWays.{few_ways};
 ghost use Rattle.colour_seeds.specs.Plan.{IsPlan, seeds_in};
 
 use crate::tally::tally_all;

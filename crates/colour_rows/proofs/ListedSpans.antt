@@ -21,12 +21,12 @@ high_at d c lt = get_or-map-range_with_len (high d) 0 (size d) c c 0 lt (omega a
 pub how_many : (d : Diagram) → length (spans_of d).lows ≡ size d
 how_many d = length-map-range_with_len (low d) 0 (size d)
 
-pub columns_cover : (d : Diagram) (c r : ℕ) → c < size d → lanes.covers (spans_of d).lows (spans_of d).highs r c ≡ covers d c r
+pub columns_cover : (d : Diagram) (c r : ℕ) → c < size d → lanes.lane_covers (spans_of d).lows (spans_of d).highs r c ≡ covers d c r
 columns_cover d c r lt =
     ap₂ (λ (a b : Bool). a && b) (ap (nat_lt c) (how_many d) ∙ lt-ltb c (size d) lt)
     (ap₂ (λ (l h : ℕ). nat_lt l r && nat_lt r h) (low_at d c lt) (high_at d c lt))
 
-pub none_behind : (d : Diagram) (c r : ℕ) → size d ≤ c → lanes.covers (spans_of d).lows (spans_of d).highs r c ≡ false
+pub none_behind : (d : Diagram) (c r : ℕ) → size d ≤ c → lanes.lane_covers (spans_of d).lows (spans_of d).highs r c ≡ false
 none_behind d c r le =
     ap (λ (b : Bool). b && (nat_lt (get_or (spans_of d).lows c 0) r && nat_lt r (get_or (spans_of d).highs c 0)))
     (ap (nat_lt c) (how_many d) ∙ le-ltb c (size d) le)

@@ -1,6 +1,6 @@
 //! The spans of a diagram's columns, packed so that one kernel tells which of them cover a row.
 ghost use Rattle.std.specs.Prelude.{◌≡◌, ℕ};
-ghost use Rattle.lane_spans.specs.Columns.{covers, has_bit};
+ghost use Rattle.lane_spans.specs.Columns.{lane_covers, has_bit};
 ghost use Rattle.colour_rows.specs.Spans.{spans_of};
 
 use arrayvec::ArrayVec;
@@ -45,7 +45,7 @@ impl Spans {
 
     /// The mask of the columns that cover a row: bit c is set exactly where column c does.
     pub fn covering(&self, row: u8) -> u64
-        ensures { (c : ℕ) → has_bit result c ≡ covers self.now.lows self.now.highs row c }
+        ensures { (c : ℕ) → has_bit result c ≡ lane_covers self.now.lows self.now.highs row c }
     {
         covering_mask(self.low.as_slice(), self.high.as_slice(), row)
     }

@@ -18,7 +18,7 @@ use Rattle.colour_rows.specs.Colouring.{IsColouring}
 use Rattle.colour_rows.proofs.Walks.{IsPassed, each_passed, turn_stays}
 use Rattle.colour_list.specs.Listing.{colourings}
 use Rattle.colour_laws.proofs.Listings.{listing, kept_in, kept_out, kept_distinct}
-use Rattle.colour_seeds.specs.Connected.{IsClosedSet, IsConnected, coloured_so}
+use Rattle.colour_seeds.specs.Connected.{IsStableSet, IsConnected, coloured_so}
 
 -- the map respects both operations
 pub record Respects (t : Table) (h : ℕ → ℕ) : Type 0 where
@@ -133,7 +133,7 @@ pub as_frequent : (t : Table) (d : Diagram) (c a b : ℕ) → IsQuandle t → Is
 as_frequent t d c a b q grid connected lt at to =
     let many = coloured_so t d c a in
     let p = λ (x : ℕ). coloured_so t d c x == many in
-    let stable : IsClosedSet t (λ x. coloured_so t d c x == coloured_so t d c a) = record {
+    let stable : IsStableSet t (λ x. coloured_so t d c x == coloured_so t d c a) = record {
       over_stays = λ x y first second has.
           eq-eqb (coloured_so t d c (over t x y)) many (sym (as_many t q d grid c lt x y first second) ∙ eqb-true (coloured_so t d c x) many has);
       back_stays = λ x y first second has.

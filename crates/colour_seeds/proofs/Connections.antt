@@ -7,7 +7,7 @@ use Rattle.std.proofs.lemmas.List.FromFn.{get_or-range_with_len, length-range_wi
 use Rattle.std.proofs.lemmas.List.Sums.{AllPass-from_list_all}
 use Rattle.quandle_core.specs.Quandle.{Table, IsQuandle, over, back}
 use Rattle.colour_rows.proofs.Ranges.{all_range}
-use Rattle.colour_seeds.specs.Connected.{IsClosedSet, IsConnected}
+use Rattle.colour_seeds.specs.Connected.{IsStableSet, IsConnected}
 use Rattle.colour_seeds.proofs.Ways.{mark_new, mark_here, marked}
 
 -- which colours are marked
@@ -18,7 +18,7 @@ is_reached marks x = get_or marks x false
 pub record IsReached (t : Table) (n : ℕ) (marks : List Bool) : Type 0 where
   pub long : length marks ≡ n
   pub begins : is_reached marks 0 ≡ true
-  pub only : (p : ℕ → Bool) → IsClosedSet t p → p 0 ≡ true → (x : ℕ) → is_reached marks x ≡ true → p x ≡ true
+  pub only : (p : ℕ → Bool) → IsStableSet t p → p 0 ≡ true → (x : ℕ) → is_reached marks x ≡ true → p x ≡ true
 
 pub reached_first : (t : Table) (n : ℕ) (marks : List Bool) → 0 < n → marks ≡ set (replicate n false) 0 true → IsReached t n marks
 reached_first t n marks some is = record {
@@ -37,7 +37,7 @@ reached_first t n marks some is = record {
     ]
 
 pub reached_more : (t : Table) (n : ℕ) (marks later : List Bool) (z : ℕ) → IsReached t n marks
-    → ((p : ℕ → Bool) → IsClosedSet t p → ((x : ℕ) → x < t.order → is_reached marks x ≡ true → p x ≡ true) → p z ≡ true)
+    → ((p : ℕ → Bool) → IsStableSet t p → ((x : ℕ) → x < t.order → is_reached marks x ≡ true → p x ≡ true) → p z ≡ true)
     → later ≡ set marks z true → IsReached t n later
 reached_more t n marks later z reached new is = record {
   long = ap length is ∙ (length-set marks z true ∙ reached.long);
@@ -49,7 +49,7 @@ reached_more t n marks later z reached new is = record {
 }
 
 -- what is not in a stable set is stable
-others_stable : (t : Table) → IsQuandle t → (p : ℕ → Bool) → IsClosedSet t p → IsClosedSet t (λ x. not (p x))
+others_stable : (t : Table) → IsQuandle t → (p : ℕ → Bool) → IsStableSet t p → IsStableSet t (λ x. not (p x))
 others_stable t q p stable = record {
   over_stays = λ x y first second out. other (p (over t x y)) (p x) out
       (λ has. ap p (sym (q.back_over x y first second)) ∙ stable.back_stays (over t x y) y (q.within x y first second) second has);
@@ -62,7 +62,7 @@ others_stable t q p stable = record {
     other true false out to = absurd (both_ways false refl (to refl))
     other false b out to = refl
 
-both_reached : (t : Table) → IsQuandle t → (n : ℕ) (marks : List Bool) → IsReached t n marks → (p : ℕ → Bool) → IsClosedSet t p → (x z : ℕ) → p x ≡ true
+both_reached : (t : Table) → IsQuandle t → (n : ℕ) (marks : List Bool) → IsReached t n marks → (p : ℕ → Bool) → IsStableSet t p → (x z : ℕ) → p x ≡ true
     → is_reached marks x ≡ true → is_reached marks z ≡ true → (b : Bool) → p 0 ≡ b → p z ≡ true
 both_reached t q n marks reached p stable x z has at to true e = reached.only p stable e z to
 both_reached t q n marks reached p stable x z has at to false e =
@@ -79,7 +79,7 @@ connected_from t q n marks reached all = λ p stable x z at to has.
     both_reached t q n marks reached p stable x z has (each x at) (each z to) (p 0) refl
 
 -- and in a connected quandle they are, where the marks are stable
-pub all_reached : (t : Table) → IsQuandle t → (n : ℕ) (marks : List Bool) → IsReached t n marks → IsClosedSet t (is_reached marks) → IsConnected t
+pub all_reached : (t : Table) → IsQuandle t → (n : ℕ) (marks : List Bool) → IsReached t n marks → IsStableSet t (is_reached marks) → IsConnected t
     → list_all (λ x. is_reached marks x) (range_with_len 0 t.order) ≡ true
 all_reached t q n marks reached stable connected =
     all_range (λ x. is_reached marks x) t.order (λ x lt. connected (is_reached marks) stable 0 x (omega (arith, q.least)) lt reached.begins)

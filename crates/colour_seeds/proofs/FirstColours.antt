@@ -22,7 +22,7 @@ use Rattle.colour_seeds.specs.Connected.{IsConnected, coloured_so}
 use Rattle.colour_seeds.specs.declared.progress.Step.{Step}
 use Rattle.colour_seeds.specs.declared.progress.Step.TheVariants.{Seed, Rightward, Leftward, Test}
 use Rattle.colour_seeds.specs.declared.progress.Progress.{Progress}
-use Rattle.colour_seeds.specs.Plan.{is_known, is_seed, seeds_in, after, nothing, Leads, IsPlan}
+use Rattle.colour_seeds.specs.Plan.{is_known, is_seed, seeds_in, progress_after, nothing, LeadsBySteps, IsPlan}
 use Rattle.colour_seeds.specs.Leaves.{leaves}
 use Rattle.colour_seeds.proofs.RowSteps.{row_steps, rightward_ends, leftward_ends}
 use Rattle.colour_seeds.proofs.Ways.{mark_here, step_keeps, sound_nothing}
@@ -94,13 +94,14 @@ by_colour t d c a q grid connected lt at =
 apart : (d : Diagram) (g : Progress) (x c : ℕ) → is_known g c ≡ true → is_known g x ≡ false → c ≢ x
 apart d g x c known unknown e = both_ways (is_known g x) unknown (ap (is_known g) (sym e) ∙ known)
 
-kept_at : (t : Table) (d : Diagram) (c a : ℕ) (g h : Progress) (steps : List Step) → Leads d g steps h → is_known g c ≡ true → (f : List ℕ) → get_or f c 0 ≡ a
+kept_at : (t : Table) (d : Diagram) (c a : ℕ) (g h : Progress) (steps : List Step) → LeadsBySteps d g steps h → is_known g c ≡ true → (f : List ℕ)
+    → get_or f c 0 ≡ a
     → All (λ e. get_or e c 0 ≡ a) (leaves t d steps f)
 kept_at t d c a g h [] leads known f at = All-cons (λ e. get_or e c 0 ≡ a) f [] at (All-nil (λ e. get_or e c 0 ≡ a))
 kept_at t d c a g h (Seed x ∷ steps) leads known f at =
     let other = apart d g x c known leads.0.1 in
     All-flat_map (leaves t d steps) (λ e. get_or e c 0 ≡ a) (λ e. get_or e c 0 ≡ a)
-    (λ e here. kept_at t d c a (after d g (Seed x)) h steps leads.1 (step_keeps d g (Seed x) c known) e here) (spread t.order x f)
+    (λ e here. kept_at t d c a (progress_after d g (Seed x)) h steps leads.1 (step_keeps d g (Seed x) c known) e here) (spread t.order x f)
     (All-map (λ e. get_or e c 0 ≡ a) (set f x) (range_with_len 0 t.order)
     (λ k e lt. get_or-set_other f x c (get_or (range_with_len 0 t.order) k e) 0 other ∙ at))
 kept_at t d c a g h (Rightward r ∷ steps) leads known f at =
@@ -109,7 +110,7 @@ kept_at t d c a g h (Rightward r ∷ steps) leads known f at =
     let other = apart d g (right d r) c known sides.1 in
     let e = with_right t (equation d r) f in
     subst (All (λ e. get_or e c 0 ≡ a)) (sym (one_leaf t d steps e))
-    (kept_at t d c a (after d g (Rightward r)) h steps leads.1 (step_keeps d g (Rightward r) c known) e
+    (kept_at t d c a (progress_after d g (Rightward r)) h steps leads.1 (step_keeps d g (Rightward r) c known) e
     (get_or-set_other f (right d r) c (walk_of t (equation d r) f) 0 other ∙ at))
 kept_at t d c a g h (Leftward r ∷ steps) leads known f at =
     let row = row_steps d g r (Leftward r) leads.0.1 in
@@ -117,10 +118,10 @@ kept_at t d c a g h (Leftward r ∷ steps) leads known f at =
     let other = apart d g (left d r) c known sides.0 in
     let e = with_left t (equation d r) f in
     subst (All (λ e. get_or e c 0 ≡ a)) (sym (one_leaf t d steps e))
-    (kept_at t d c a (after d g (Leftward r)) h steps leads.1 (step_keeps d g (Leftward r) c known) e
+    (kept_at t d c a (progress_after d g (Leftward r)) h steps leads.1 (step_keeps d g (Leftward r) c known) e
     (get_or-set_other f (left d r) c (walk_back_of t (equation d r) f) 0 other ∙ at))
 kept_at t d c a g h (Test r ∷ steps) leads known f at =
-    let rest = kept_at t d c a (after d g (Test r)) h steps leads.1 known f at in
+    let rest = kept_at t d c a (progress_after d g (Test r)) h steps leads.1 known f at in
     by_test (walk_of t (equation d r) f == get_or f (right d r) 0) rest
   where
     by_test : (b : Bool) → All (λ e. get_or e c 0 ≡ a) (leaves t d steps f)
@@ -162,7 +163,7 @@ first_count t d x rest q grid plan =
     let sound = sound_nothing d in
     let long : length (replicate {A = ℕ} MAX_SIZE 0) ≡ MAX_SIZE = length-replicate {A = ℕ} MAX_SIZE 0 in
     let each : (a : ℕ) → a < t.order → All (λ e. get_or e x 0 ≡ a) (leaves t d rest (set (replicate MAX_SIZE 0) x a)) = λ a lt.
-    kept_at t d x a (after d nothing (Seed x)) plan.last rest plan.leads.1 (mark_here nothing.known x (omega (arith, at, sound.known_long))) (set (replicate MAX_SIZE 0) x a)
+    kept_at t d x a (progress_after d nothing (Seed x)) plan.last rest plan.leads.1 (mark_here nothing.known x (omega (arith, at, sound.known_long))) (set (replicate MAX_SIZE 0) x a)
     (get_or-set_same (replicate MAX_SIZE 0) x a 0 (omega (arith, at, long))) in
     let blank : set (replicate MAX_SIZE 0) x 0 ≡ replicate MAX_SIZE 0 =
     ap (λ (v : ℕ). set (replicate MAX_SIZE 0) x v) (sym (get_or-replicate MAX_SIZE x 0 0 at)) ∙ set-get_or (replicate MAX_SIZE 0) x 0 in

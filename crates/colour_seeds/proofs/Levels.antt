@@ -29,8 +29,8 @@ use Rattle.colour_list.proofs.Fewer.{fewer}
 use Rattle.colour_seeds.specs.declared.progress.Step.{Step}
 use Rattle.colour_seeds.specs.declared.progress.Step.TheVariants.{Seed, Rightward, Leftward, Test}
 use Rattle.colour_seeds.specs.declared.progress.Progress.{Progress}
-use Rattle.colour_seeds.specs.Plan.{is_known, is_read, after, nothing, Leads, IsAllowed, IsPlan}
-use Rattle.colour_seeds.specs.Leaves.{leaves, stepped}
+use Rattle.colour_seeds.specs.Plan.{is_known, is_read, progress_after, nothing, LeadsBySteps, IsAllowed, IsPlan}
+use Rattle.colour_seeds.specs.Leaves.{leaves, lists_after_step}
 use Rattle.colour_seeds.proofs.RowSteps.{row_steps, rightward_ends, leftward_ends}
 use Rattle.colour_seeds.proofs.Ways.{IsSound, marked, mark_new, mark_old, mark_here, nothing_known, sound_after, sound_leads, sound_nothing}
 
@@ -115,7 +115,7 @@ flat_map_test p (x ∷ xs) = here (p x) (x) (filter p xs) (flat_map (λ x. if p 
 
 -- a step carries its level to the next
 step_level : (t : Table) (d : Diagram) (g : Progress) (s : Step) → IsQuandle t → IsGrid d → IsSound d g → IsAllowed d g s → (level : List (List ℕ))
-    → IsLevelOf t d g level → IsLevelOf t d (after d g s) (flat_map (stepped t d s) level)
+    → IsLevelOf t d g level → IsLevelOf t d (progress_after d g s) (flat_map (lists_after_step t d s) level)
 step_level t d g (Seed c) q grid sound allowed level l =
     let some : 0 < t.order = omega (arith, q.least) in
     let at : c < MAX_SIZE = omega (arith, allowed.0, grid.most) in
@@ -123,7 +123,7 @@ step_level t d g (Seed c) q grid sound allowed level l =
     (opens_at d g grid sound c allowed.0 allowed.1) (ignored t d g grid sound c allowed.1) l
 step_level t d g (Rightward r) q grid sound allowed level l =
     let some : 0 < t.order = omega (arith, q.least) in
-    let h = after d g (Rightward r) in
+    let h = progress_after d g (Rightward r) in
     let steps = row_steps d g r (Rightward r) allowed.1 in
     let sides = rightward_ends r (is_known g (left d r)) (is_known g (right d r)) steps.ends in
     let e = has_ends d grid r allowed.0 in
@@ -131,12 +131,12 @@ step_level t d g (Rightward r) q grid sound allowed level l =
     let wide = open_level MAX_SIZE t.order (right d r) (IsBlank g) (IsBlank h) (ReadClose t d g) level some at
     (opens_at d g grid sound (right d r) e.within sides.1) (ignored t d g grid sound (right d r) sides.1) l in
     let closed = read_more t d g h r (IsBlank h) grid sound allowed.0 refl (flat_map (spread t.order (right d r)) level) wide in
-    let single : flat_map (stepped t d (Rightward r)) level ≡ map (λ f. set f (right d r) (walk t d f r)) level =
+    let single : flat_map (lists_after_step t d (Rightward r)) level ≡ map (λ f. set f (right d r) (walk t d f r)) level =
     flat_map_single (with_right t (equation d r)) level ∙ (λ i. map (λ f. set f (right d r) (walk_same t d f r i)) level) in
     subst (IsLevelOf t d h) (solved_right t d r MAX_SIZE q e grid.most level (level_colours t d g level l) ∙ sym single) closed
 step_level t d g (Leftward r) q grid sound allowed level l =
     let some : 0 < t.order = omega (arith, q.least) in
-    let h = after d g (Leftward r) in
+    let h = progress_after d g (Leftward r) in
     let steps = row_steps d g r (Leftward r) allowed.1 in
     let sides = leftward_ends r (is_known g (left d r)) (is_known g (right d r)) steps.ends in
     let e = has_ends d grid r allowed.0 in
@@ -145,13 +145,13 @@ step_level t d g (Leftward r) q grid sound allowed level l =
     let wide = open_level MAX_SIZE t.order (left d r) (IsBlank g) (IsBlank h) (ReadClose t d g) level some at
     (opens_at d g grid sound (left d r) lt sides.0) (ignored t d g grid sound (left d r) sides.0) l in
     let closed = read_more t d g h r (IsBlank h) grid sound allowed.0 refl (flat_map (spread t.order (left d r)) level) wide in
-    let single : flat_map (stepped t d (Leftward r)) level ≡ map (λ f. set f (left d r) (walk_back t d f r)) level =
+    let single : flat_map (lists_after_step t d (Leftward r)) level ≡ map (λ f. set f (left d r) (walk_back t d f r)) level =
     flat_map_single (with_left t (equation d r)) level ∙ (λ i. map (λ f. set f (left d r) (walk_back_same t d f r i)) level) in
     subst (IsLevelOf t d h) (solved_left t d r MAX_SIZE q e grid.most level (level_colours t d g level l) ∙ sym single) closed
 step_level t d g (Test r) q grid sound allowed level l =
-    let h = after d g (Test r) in
+    let h = progress_after d g (Test r) in
     let closed = read_more t d g h r (IsBlank g) grid sound allowed.0 refl level l in
-    let tests : flat_map (stepped t d (Test r)) level ≡ filter (λ f. closes t d f r) level =
+    let tests : flat_map (lists_after_step t d (Test r)) level ≡ filter (λ f. closes t d f r) level =
     flat_map_test (λ f. walk_of t (equation d r) f == get_or f (right d r) 0) level
     ∙ (λ i. filter (λ f. walk_same t d f r i == get_or f (right d r) 0) level) in
     subst (IsLevelOf t d h) (sym tests) closed
@@ -165,13 +165,13 @@ map_itself [] = refl
 map_itself (x ∷ xs) = ap (λ ys. x ∷ ys) (map_itself xs)
 
 -- and all steps carry it to the last
-leaves_level : (t : Table) (d : Diagram) → IsQuandle t → IsGrid d → (steps : List Step) (g h : Progress) → IsSound d g → Leads d g steps h → (level : List (List ℕ))
+leaves_level : (t : Table) (d : Diagram) → IsQuandle t → IsGrid d → (steps : List Step) (g h : Progress) → IsSound d g → LeadsBySteps d g steps h → (level : List (List ℕ))
     → IsLevelOf t d g level → IsLevelOf t d h (flat_map (leaves t d steps) level)
 leaves_level t d q grid [] g h sound leads level l =
     subst (IsLevelOf t d h) (sym (map_itself level)) (subst (λ (g : Progress). IsLevelOf t d g level) leads l)
 leaves_level t d q grid (s ∷ steps) g h sound leads level l =
-    subst (IsLevelOf t d h) (sym (flat_map_twice (leaves t d steps) (stepped t d s) level))
-    (leaves_level t d q grid steps (after d g s) h (sound_after d g s grid sound leads.0) leads.1 (flat_map (stepped t d s) level)
+    subst (IsLevelOf t d h) (sym (flat_map_twice (leaves t d steps) (lists_after_step t d s) level))
+    (leaves_level t d q grid steps (progress_after d g s) h (sound_after d g s grid sound leads.0) leads.1 (flat_map (lists_after_step t d s) level)
     (step_level t d g s q grid sound leads.0 level l))
 
 -- the same level, said otherwise

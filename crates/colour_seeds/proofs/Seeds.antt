@@ -13,7 +13,7 @@ use Rattle.colour_seeds.specs.Seeded.{HasKnown}
 use Rattle.colour_seeds.specs.declared.progress.Step.{Step}
 use Rattle.colour_seeds.specs.declared.progress.Step.TheVariants.{Seed, Rightward, Leftward, Test}
 use Rattle.colour_seeds.specs.declared.progress.Progress.{Progress}
-use Rattle.colour_seeds.specs.Plan.{is_known, is_seed, seeds_in, seed_columns, after, nothing, Leads, IsPlan}
+use Rattle.colour_seeds.specs.Plan.{is_known, is_seed, seeds_in, seed_columns, progress_after, nothing, LeadsBySteps, IsPlan}
 use Rattle.colour_seeds.proofs.RowSteps.{row_steps, rightward_ends, leftward_ends, overs_from}
 use Rattle.colour_seeds.proofs.Ways.{IsSound, sound_after, sound_leads, sound_nothing, nothing_known, only_from}
 use Rattle.colour_seeds.proofs.Settlings.{seeds_cons}
@@ -99,27 +99,27 @@ count_new xs i lt e =
     let zero : ◌≡◌ {A = ℕ} (cond (get_or xs i false) 1 0) 0 = ap (λ b. cond b 1 0) e in omega arith
 
 -- each seed is a column more that is known
-seeds_known : (d : Diagram) (g h : Progress) (steps : List Step) → IsGrid d → IsSound d g → Leads d g steps h
+seeds_known : (d : Diagram) (g h : Progress) (steps : List Step) → IsGrid d → IsSound d g → LeadsBySteps d g steps h
     → length (seed_columns steps) + count_by (λ b. b) g.known ≤ count_by (λ b. b) h.known
 seeds_known d g h [] grid sound leads = let e = ap (λ (g : Progress). count_by (λ b. b) g.known) leads in omega arith
 seeds_known d g h (Seed c ∷ steps) grid sound leads =
-    let more = seeds_known d (after d g (Seed c)) h steps grid (sound_after d g (Seed c) grid sound leads.0) leads.1 in
+    let more = seeds_known d (progress_after d g (Seed c)) h steps grid (sound_after d g (Seed c) grid sound leads.0) leads.1 in
     let e = count_new g.known c (omega (arith, leads.0.0, grid.most, sound.known_long)) leads.0.1 in
     omega arith
 seeds_known d g h (Rightward r ∷ steps) grid sound leads =
-    let more = seeds_known d (after d g (Rightward r)) h steps grid (sound_after d g (Rightward r) grid sound leads.0) leads.1 in
+    let more = seeds_known d (progress_after d g (Rightward r)) h steps grid (sound_after d g (Rightward r) grid sound leads.0) leads.1 in
     let ends = has_ends d grid r leads.0.0 in
     let e = count_up g.known (right d r) (omega (arith, ends.within, grid.most, sound.known_long)) in
     omega arith
 seeds_known d g h (Leftward r ∷ steps) grid sound leads =
-    let more = seeds_known d (after d g (Leftward r)) h steps grid (sound_after d g (Leftward r) grid sound leads.0) leads.1 in
+    let more = seeds_known d (progress_after d g (Leftward r)) h steps grid (sound_after d g (Leftward r) grid sound leads.0) leads.1 in
     let ends = has_ends d grid r leads.0.0 in
     let e = count_up g.known (left d r) (omega (arith, ends.within, ends.ordered, grid.most, sound.known_long)) in
     omega arith
 seeds_known d g h (Test r ∷ steps) grid sound leads =
-    seeds_known d (after d g (Test r)) h steps grid (sound_after d g (Test r) grid sound leads.0) leads.1
+    seeds_known d (progress_after d g (Test r)) h steps grid (sound_after d g (Test r) grid sound leads.0) leads.1
 
-pub seeds_fit : (d : Diagram) (steps : List Step) (h : Progress) → IsGrid d → Leads d nothing steps h → length (seed_columns steps) ≤ MAX_SIZE
+pub seeds_fit : (d : Diagram) (steps : List Step) (h : Progress) → IsGrid d → LeadsBySteps d nothing steps h → length (seed_columns steps) ≤ MAX_SIZE
 seeds_fit d steps h grid leads =
     let e = seeds_known d nothing h steps grid (sound_nothing d) leads in
     let most = count_by-le-length (λ b. b) h.known in
@@ -127,32 +127,33 @@ seeds_fit d steps h grid leads =
     omega (arith, e, most, sound.known_long)
 
 -- a closed set that has the seeds has what is known
-follow : (d : Diagram) (p : ℕ → Bool) → IsClosed d p → (g h : Progress) (steps : List Step) → Leads d g steps h → HasKnown p g
+follow : (d : Diagram) (p : ℕ → Bool) → IsClosed d p → (g h : Progress) (steps : List Step) → LeadsBySteps d g steps h → HasKnown p g
     → All (λ s. p s ≡ true) (seed_columns steps) → HasKnown p h
 follow d p closed g h [] leads has seeds = subst (HasKnown p) leads has
 follow d p closed g h (Seed c ∷ steps) leads has seeds =
-    follow d p closed (after d g (Seed c)) h steps leads.1
+    follow d p closed (progress_after d g (Seed c)) h steps leads.1
     (only_from d p g c has (All-head (λ s. p s ≡ true) c (seed_columns steps) seeds)) (All-tail (λ s. p s ≡ true) c (seed_columns steps) seeds)
 follow d p closed g h (Rightward r ∷ steps) leads has seeds =
     let row = row_steps d g r (Rightward r) leads.0.1 in
     let sides = rightward_ends r (is_known g (left d r)) (is_known g (right d r)) row.ends in
-    follow d p closed (after d g (Rightward r)) h steps leads.1
+    follow d p closed (progress_after d g (Rightward r)) h steps leads.1
     (only_from d p g (right d r) has
     (closed.rightward r leads.0.0 (λ c at over. has c (overs_from d g r row.overs c at over)) (has (left d r) sides.0))) seeds
 follow d p closed g h (Leftward r ∷ steps) leads has seeds =
     let row = row_steps d g r (Leftward r) leads.0.1 in
     let sides = leftward_ends r (is_known g (left d r)) (is_known g (right d r)) row.ends in
-    follow d p closed (after d g (Leftward r)) h steps leads.1
+    follow d p closed (progress_after d g (Leftward r)) h steps leads.1
     (only_from d p g (left d r) has
     (closed.leftward r leads.0.0 (λ c at over. has c (overs_from d g r row.overs c at over)) (has (right d r) sides.1))) seeds
-follow d p closed g h (Test r ∷ steps) leads has seeds = follow d p closed (after d g (Test r)) h steps leads.1 has seeds
+follow d p closed g h (Test r ∷ steps) leads has seeds = follow d p closed (progress_after d g (Test r)) h steps leads.1 has seeds
 
-seeds_inside : (d : Diagram) (g h : Progress) (steps : List Step) → Leads d g steps h → All (λ s. s < size d) (seed_columns steps)
+seeds_inside : (d : Diagram) (g h : Progress) (steps : List Step) → LeadsBySteps d g steps h → All (λ s. s < size d) (seed_columns steps)
 seeds_inside d g h [] leads = All-nil (λ s. s < size d)
-seeds_inside d g h (Seed c ∷ steps) leads = All-cons (λ s. s < size d) c (seed_columns steps) leads.0.0 (seeds_inside d (after d g (Seed c)) h steps leads.1)
-seeds_inside d g h (Rightward r ∷ steps) leads = seeds_inside d (after d g (Rightward r)) h steps leads.1
-seeds_inside d g h (Leftward r ∷ steps) leads = seeds_inside d (after d g (Leftward r)) h steps leads.1
-seeds_inside d g h (Test r ∷ steps) leads = seeds_inside d (after d g (Test r)) h steps leads.1
+seeds_inside d g h (Seed c ∷ steps) leads =
+    All-cons (λ s. s < size d) c (seed_columns steps) leads.0.0 (seeds_inside d (progress_after d g (Seed c)) h steps leads.1)
+seeds_inside d g h (Rightward r ∷ steps) leads = seeds_inside d (progress_after d g (Rightward r)) h steps leads.1
+seeds_inside d g h (Leftward r ∷ steps) leads = seeds_inside d (progress_after d g (Leftward r)) h steps leads.1
+seeds_inside d g h (Test r ∷ steps) leads = seeds_inside d (progress_after d g (Test r)) h steps leads.1
 
 pub plan_determines : (d : Diagram) (steps : List Step) → IsGrid d → IsPlan d steps → Determine (seed_columns steps) d
 plan_determines d steps grid plan = record {

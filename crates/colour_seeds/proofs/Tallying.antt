@@ -18,7 +18,7 @@ use Rattle.colour_list.proofs.Cut.{Ends, cut_colouring}
 use Rattle.colour_seeds.specs.declared.progress.Step.{Step}
 use Rattle.colour_seeds.specs.declared.progress.Step.TheVariants.{Seed, Rightward, Leftward, Test}
 use Rattle.colour_seeds.specs.Plan.{seeds_in}
-use Rattle.colour_seeds.specs.Leaves.{leaves, stepped}
+use Rattle.colour_seeds.specs.Leaves.{leaves, lists_after_step}
 use Rattle.colour_seeds.proofs.Settlings.{one_leaf, spread_more, one_times, seed_power, no_seed_power}
 use Rattle.colour_seeds.proofs.Levels.{cut, equally_many}
 
@@ -48,13 +48,13 @@ length_leaves t d (Seed c ∷ steps) f =
     omega arith
 length_leaves t d (Rightward r ∷ steps) f =
     let e = no_seed_power t.order (Rightward r ∷ steps) steps (Rightward r) refl refl in
-    let g = get_or (stepped t d (Rightward r) f) 0 [] in
+    let g = get_or (lists_after_step t d (Rightward r) f) 0 [] in
     let h = length_leaves t d steps g in
     let l = ap length (one_leaf t d steps g) in
     omega arith
 length_leaves t d (Leftward r ∷ steps) f =
     let e = no_seed_power t.order (Leftward r ∷ steps) steps (Leftward r) refl refl in
-    let g = get_or (stepped t d (Leftward r) f) 0 [] in
+    let g = get_or (lists_after_step t d (Leftward r) f) 0 [] in
     let h = length_leaves t d steps g in
     let l = ap length (one_leaf t d steps g) in
     omega arith

@@ -16,7 +16,7 @@ use Rattle.colour_seeds.specs.declared.seeding.SeedFault.TheVariants.{Outside, U
 use Rattle.colour_seeds.specs.declared.progress.Step.{Step}
 use Rattle.colour_seeds.specs.declared.progress.Step.TheVariants.{Seed, Rightward, Leftward, Test}
 use Rattle.colour_seeds.specs.declared.progress.Progress.{Progress}
-use Rattle.colour_seeds.specs.Plan.{is_known, is_read, by_ends, row_step, next_step, after, nothing, Leads, IsAllowed, is_seed, seeds_in}
+use Rattle.colour_seeds.specs.Plan.{is_known, is_read, by_ends, row_step, next_step, progress_after, nothing, LeadsBySteps, IsAllowed, is_seed, seeds_in}
 use Rattle.colour_seeds.proofs.RowSteps.{row_steps, rightward_ends, leftward_ends, test_ends, overs_from, next_allowed, idle_row}
 
 -- a mark that is set, and those that stay
@@ -66,7 +66,7 @@ has_more : (d : Diagram) (g h : Progress) (r : ℕ) → HasKnown (is_known h) g 
 has_more d g h r keeps all = record { at_left = keeps (left d r) all.at_left; at_right = keeps (right d r) all.at_right; overs = λ c lt over. keeps c (all.overs c lt over) }
 
 -- a step keeps what is known
-pub step_keeps : (d : Diagram) (g : Progress) (s : Step) → HasKnown (is_known (after d g s)) g
+pub step_keeps : (d : Diagram) (g : Progress) (s : Step) → HasKnown (is_known (progress_after d g s)) g
 step_keeps d g (Seed c) x e = marked g.known c x e
 step_keeps d g (Rightward r) x e = marked g.known (right d r) x e
 step_keeps d g (Leftward r) x e = marked g.known (left d r) x e
@@ -85,15 +85,15 @@ known_inside d g x sound lt c e = elim (mark_new g.known x c e) [
   | inr before ↦ sound.inside c before
 ]
 
-pub sound_after : (d : Diagram) (g : Progress) (s : Step) → IsGrid d → IsSound d g → IsAllowed d g s → IsSound d (after d g s)
+pub sound_after : (d : Diagram) (g : Progress) (s : Step) → IsGrid d → IsSound d g → IsAllowed d g s → IsSound d (progress_after d g s)
 sound_after d g (Seed c) grid sound allowed = record {
   known_long = length-set g.known c true ∙ sound.known_long;
   read_long = sound.read_long;
   inside = known_inside d g c sound allowed.0;
-  rows = λ r lt e. has_more d g (after d g (Seed c)) r (step_keeps d g (Seed c)) (sound.rows r lt e);
+  rows = λ r lt e. has_more d g (progress_after d g (Seed c)) r (step_keeps d g (Seed c)) (sound.rows r lt e);
 }
 sound_after d g (Rightward r) grid sound allowed =
-    let h = after d g (Rightward r) in
+    let h = progress_after d g (Rightward r) in
     let steps = row_steps d g r (Rightward r) allowed.1 in
     let sides = rightward_ends r (is_known g (left d r)) (is_known g (right d r)) steps.ends in
     let e = has_ends d grid r allowed.0 in
@@ -108,7 +108,7 @@ sound_after d g (Rightward r) grid sound allowed =
       });
     }
 sound_after d g (Leftward r) grid sound allowed =
-    let h = after d g (Leftward r) in
+    let h = progress_after d g (Leftward r) in
     let steps = row_steps d g r (Leftward r) allowed.1 in
     let sides = leftward_ends r (is_known g (left d r)) (is_known g (right d r)) steps.ends in
     let e = has_ends d grid r allowed.0 in
@@ -124,7 +124,7 @@ sound_after d g (Leftward r) grid sound allowed =
       });
     }
 sound_after d g (Test r) grid sound allowed =
-    let h = after d g (Test r) in
+    let h = progress_after d g (Test r) in
     let steps = row_steps d g r (Test r) allowed.1 in
     let sides = test_ends r (is_known g (left d r)) (is_known g (right d r)) steps.ends in
     record {
@@ -134,9 +134,9 @@ sound_after d g (Test r) grid sound allowed =
       rows = read_row d g h r sound (λ c e. e) refl (record { at_left = sides.0; at_right = sides.1; overs = overs_from d g r steps.overs });
     }
 
-pub sound_leads : (d : Diagram) (g h : Progress) (steps : List Step) → IsGrid d → IsSound d g → Leads d g steps h → IsSound d h
+pub sound_leads : (d : Diagram) (g h : Progress) (steps : List Step) → IsGrid d → IsSound d g → LeadsBySteps d g steps h → IsSound d h
 sound_leads d g h [] grid sound leads = subst (IsSound d) leads sound
-sound_leads d g h (s ∷ steps) grid sound leads = sound_leads d (after d g s) h steps grid (sound_after d g s grid sound leads.0) leads.1
+sound_leads d g h (s ∷ steps) grid sound leads = sound_leads d (progress_after d g s) h steps grid (sound_after d g s grid sound leads.0) leads.1
 
 none_marked : (n c : ℕ) → get_or (replicate n false) c false ≡ false
 none_marked n c = elim (cases_lt c n) [
@@ -159,9 +159,10 @@ pub nothing_known : (c : ℕ) → is_known nothing c ≡ false
 nothing_known c = none_marked MAX_SIZE c
 
 -- one step more
-pub leads_more : (d : Diagram) (g h : Progress) (steps : List Step) (s : Step) → Leads d g steps h → IsAllowed d h s → Leads d g (steps ++ s ∷ []) (after d h s)
-leads_more d g h [] s leads allowed = (subst (λ (h : Progress). IsAllowed d h s) (sym leads) allowed, ap (λ (h : Progress). after d h s) leads)
-leads_more d g h (t ∷ steps) s leads allowed = (leads.0, leads_more d (after d g t) h steps s leads.1 allowed)
+pub leads_more : (d : Diagram) (g h : Progress) (steps : List Step) (s : Step) → LeadsBySteps d g steps h → IsAllowed d h s
+    → LeadsBySteps d g (steps ++ s ∷ []) (progress_after d h s)
+leads_more d g h [] s leads allowed = (subst (λ (h : Progress). IsAllowed d h s) (sym leads) allowed, ap (λ (h : Progress). progress_after d h s) leads)
+leads_more d g h (t ∷ steps) s leads allowed = (leads.0, leads_more d (progress_after d g t) h steps s leads.1 allowed)
 
 pub seeds_more : (steps : List Step) (s : Step) → seeds_in (steps ++ s ∷ []) ≡ seeds_in steps + cond (is_seed s) 1 0
 seeds_more steps s = let e = sum_by-append (λ s. cond (is_seed s) 1 0) steps (s ∷ []) in omega (arith, e)
@@ -174,8 +175,8 @@ unread g = count_by not g.read
 pub record Next (d : Diagram) (g : Progress) (s : Step) : Type 0 where
   pub allowed : IsAllowed d g s
   pub no_seed : is_seed s ≡ false
-  pub only : (p : ℕ → Bool) → IsClosed d p → HasKnown p g → HasKnown p (after d g s)
-  pub falls : unread (after d g s) < unread g
+  pub only : (p : ℕ → Bool) → IsClosed d p → HasKnown p g → HasKnown p (progress_after d g s)
+  pub falls : unread (progress_after d g s) < unread g
 
 by_cases : (P : Step → Type 0) (r : ℕ) (a b : Bool) (s : Step) → by_ends r a b ≡ Some s → (a ≡ true → b ≡ true → P (Test r))
     → (a ≡ true → b ≡ false → P (Rightward r)) → (a ≡ false → b ≡ true → P (Leftward r)) → P s
@@ -224,7 +225,7 @@ next_of d g s grid sound e =
 pub reaches_itself : (d : Diagram) (g : Progress) → Reaches d g g
 reaches_itself d g = record { keeps = λ c e. e; only = λ p closed from. from }
 
-pub reaches_more : (d : Diagram) (g h : Progress) (s : Step) → Next d h s → Reaches d g h → Reaches d g (after d h s)
+pub reaches_more : (d : Diagram) (g h : Progress) (s : Step) → Next d h s → Reaches d g h → Reaches d g (progress_after d h s)
 reaches_more d g h s next r = record {
   keeps = λ c e. step_keeps d h s c (r.keeps c e);
   only = λ p closed from. next.only p closed (r.only p closed from);
@@ -258,7 +259,7 @@ all_read d g grid stuck known r lt false e =
     absurd (both_ways (is_known g (right d r)) none.1 (known (right d r) ends.within))
 
 -- the same of a way, whose steps lead from nothing
-pub step_next : (d : Diagram) (steps : List Step) (g : Progress) (s : Step) (found : Option Step) → IsGrid d → Leads d nothing steps g → found ≡ next_step d g → found ≡ Some s
+pub step_next : (d : Diagram) (steps : List Step) (g : Progress) (s : Step) (found : Option Step) → IsGrid d → LeadsBySteps d nothing steps g → found ≡ next_step d g → found ≡ Some s
     → Next d g s
 step_next d steps g s found grid leads is some = next_of d g s grid (sound_leads d nothing g steps grid (sound_nothing d) leads) (sym is ∙ some)
 
@@ -271,7 +272,7 @@ pub one_seed_more : (before after : List Step) (c : ℕ) → after ≡ before ++
 one_seed_more before after c is = ap seeds_in is ∙ seeds_more before (Seed c)
 
 -- a seed more
-pub seed_reaches : (d : Diagram) (g h : Progress) (c : ℕ) → Reaches d (after d g (Seed c)) h → (p : ℕ → Bool) → IsClosed d p → HasKnown p g → p c ≡ true → HasKnown p h
+pub seed_reaches : (d : Diagram) (g h : Progress) (c : ℕ) → Reaches d (progress_after d g (Seed c)) h → (p : ℕ → Bool) → IsClosed d p → HasKnown p g → p c ≡ true → HasKnown p h
 seed_reaches d g h c reaches p closed has here = reaches.only p closed (λ x e. only_from d p g c has here x e)
 
 -- where the seeds are all columns, memory alone can fail

@@ -2,7 +2,7 @@ pub mod Settled
 pub mod Plan
 pub mod Seeded
 pub mod Leaves
-pub mod Fits
+pub mod FewWays
 pub mod Connected
 pub use Rattle.grid_core.specs.Diagram
 pub use Rattle.grid_core.specs.Parts

@@ -42,16 +42,16 @@ IsAllowed d g (Leftward r) = (r < size d) × (row_step d g r ≡ Some (Leftward 
 IsAllowed d g (Test r) = (r < size d) × (row_step d g r ≡ Some (Test r))
 
 -- what is known and read behind a step
-abbrev pub after : Diagram → Progress → Step → Progress
-after d g (Seed c) = record { known = slice_set g.known c true; read = g.read }
-after d g (Rightward r) = record { known = slice_set g.known (ends d r).high true; read = slice_set g.read r true }
-after d g (Leftward r) = record { known = slice_set g.known (ends d r).low true; read = slice_set g.read r true }
-after d g (Test r) = record { known = g.known; read = slice_set g.read r true }
+abbrev pub progress_after : Diagram → Progress → Step → Progress
+progress_after d g (Seed c) = record { known = slice_set g.known c true; read = g.read }
+progress_after d g (Rightward r) = record { known = slice_set g.known (ends d r).high true; read = slice_set g.read r true }
+progress_after d g (Leftward r) = record { known = slice_set g.known (ends d r).low true; read = slice_set g.read r true }
+progress_after d g (Test r) = record { known = g.known; read = slice_set g.read r true }
 
 -- steps that are allowed one after the other lead from one progress to another
-abbrev pub Leads : Diagram → Progress → List Step → Progress → Type 0
-Leads d g [] h = g ≡ h
-Leads d g (step ∷ steps) h = IsAllowed d g step × Leads d (after d g step) steps h
+abbrev pub LeadsBySteps : Diagram → Progress → List Step → Progress → Type 0
+LeadsBySteps d g [] h = g ≡ h
+LeadsBySteps d g (step ∷ steps) h = IsAllowed d g step × LeadsBySteps d (progress_after d g step) steps h
 
 -- nothing is known
 abbrev pub nothing : Progress
@@ -60,7 +60,7 @@ nothing = record { known = replicate MAX_SIZE false; read = replicate MAX_SIZE f
 -- the steps lead from nothing to where each column is known and each row was read
 pub record IsPlan (d : Diagram) (steps : List Step) : Type 0 where
   pub last : Progress
-  pub leads : Leads d nothing steps last
+  pub leads : LeadsBySteps d nothing steps last
   pub known : (c : ℕ) → c < size d → is_known last c ≡ true
   pub read : (r : ℕ) → r < size d → is_read last r ≡ true
 

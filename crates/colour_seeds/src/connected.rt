@@ -3,7 +3,7 @@ ghost use Rattle.std.specs.Prelude.{◌≡◌, ◌<◌, ℕ, Bool, None, true, f
 ghost use Rattle.std.specs.List.{list_all, range_with_len};
 ghost use Rattle.quandle_core.specs.Quandle.{over, back};
 ghost use Rattle.quandle_core.specs.declared.operations.TheConstants.{MAX_LARGE_ORDER};
-ghost use Rattle.colour_seeds.specs.Connected.{IsConnected, IsClosedSet};
+ghost use Rattle.colour_seeds.specs.Connected.{IsConnected, IsStableSet};
 
 use quandle_core::{MAX_LARGE_ORDER, Operations};
 
@@ -34,9 +34,9 @@ fn reaches_all(quandle: &Operations, reached: &[bool; MAX_LARGE_ORDER]) -> bool
 /// A colour that is not reached yet, and that an operation gives of one that is.
 fn next_reached(quandle: &Operations, reached: &[bool; MAX_LARGE_ORDER]) -> Option<u8>
     ensures fresh { IfSome result (λ z. (z < quandle.now.order) × (slice_index_or reached.now z false ≡ false)) }
-    ensures only { IfSome result (λ z. (p : ℕ → Bool) → IsClosedSet quandle.now p
+    ensures only { IfSome result (λ z. (p : ℕ → Bool) → IsStableSet quandle.now p
         → ((x : ℕ) → x < quandle.now.order → slice_index_or reached.now x false ≡ true → p x ≡ true) → p z ≡ true) }
-    ensures stuck { result ≡ None → IsClosedSet quandle.now (λ x. slice_index_or reached.now x false) }
+    ensures stuck { result ≡ None → IsStableSet quandle.now (λ x. slice_index_or reached.now x false) }
 {
     let _order = quandle.order();
     for colour in 0..quandle.order() {
@@ -53,7 +53,7 @@ fn next_reached(quandle: &Operations, reached: &[bool; MAX_LARGE_ORDER]) -> Opti
 fn next_from(quandle: &Operations, reached: &[bool; MAX_LARGE_ORDER], colour: u8) -> Option<u8>
     requires colour { colour < quandle.now.order }
     ensures fresh { IfSome result (λ z. (z < quandle.now.order) × (slice_index_or reached.now z false ≡ false)) }
-    ensures only { IfSome result (λ z. (p : ℕ → Bool) → IsClosedSet quandle.now p → p colour ≡ true → p z ≡ true) }
+    ensures only { IfSome result (λ z. (p : ℕ → Bool) → IsStableSet quandle.now p → p colour ≡ true → p z ≡ true) }
     ensures stuck { result ≡ None → (y : ℕ) → y < quandle.now.order
         → (slice_index_or reached.now (over quandle.now colour y) false ≡ true) × (slice_index_or reached.now (back quandle.now colour y) false ≡ true) }
 {

@@ -8,7 +8,7 @@ ghost use Rattle.colour_rows.specs.Equation.{equation};
 ghost use Rattle.colour_list.specs.Level.{spread};
 ghost use Rattle.colour_seeds.specs.declared.counting.TheConstants.{MAX_CANDIDATES};
 ghost use Rattle.colour_seeds.specs.Plan.{IsPlan, seeds_in};
-ghost use Rattle.colour_seeds.specs.Fits.{few_ways};
+ghost use Rattle.colour_seeds.specs.FewWays.{few_ways};
 ghost use Rattle.colour_seeds.specs.declared.counting.CountFault.TheVariants as fault;
 ghost use Rattle.colour_list.specs.Listing.{colourings};
 ghost use Rattle.colour_seeds.specs.Leaves.{IsInside, leaves};

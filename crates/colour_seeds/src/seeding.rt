@@ -3,7 +3,7 @@ ghost use Rattle.std.specs.Prelude.{◌≡◌, ◌<◌, ◌≤◌, ◌+◌, ◌+
 ghost use Rattle.std.specs.List.{All, Contains};
 ghost use Rattle.grid_core.specs.Diagram.{size};
 ghost use Rattle.colour_seeds.specs.Settled.{Determine, IsClosed, IsSettled};
-ghost use Rattle.colour_seeds.specs.Plan.{IsAllowed, IsPlan, Leads, after, is_known, next_step, nothing, seed_columns, seeds_in};
+ghost use Rattle.colour_seeds.specs.Plan.{IsAllowed, IsPlan, LeadsBySteps, progress_after, is_known, next_step, nothing, seed_columns, seeds_in};
 ghost use Rattle.colour_seeds.specs.Seeded.{HasKnown, IsFault, Reaches};
 
 use crate::progress::{Progress, Step, next_step, take_step};
@@ -112,7 +112,7 @@ struct Way {
 /// All that follows from the seeds.
 fn way_of(alloc: Global, grid: &Grid, seeds: &[u8]) -> Result<Way, AllocFailed<Step>>
     requires columns { All (λ s. s < size grid.now) seeds.now }
-    ensures leads { IfOk result (λ w. Leads grid.now nothing w.steps.items w.progress) }
+    ensures leads { IfOk result (λ w. LeadsBySteps grid.now nothing w.steps.items w.progress) }
     ensures stuck { IfOk result (λ w. next_step grid.now w.progress ≡ None) }
     ensures taken { IfOk result (λ w. All (λ s. is_known w.progress s ≡ true) seeds.now) }
     ensures settled { IfOk result (λ w. (c : ℕ) → is_known w.progress c ≡ true → IsSettled grid.now seeds.now c) }
@@ -136,8 +136,8 @@ fn way_of(alloc: Global, grid: &Grid, seeds: &[u8]) -> Result<Way, AllocFailed<S
 /// One seed more, where it is not settled yet, with all that follows from it.
 fn seeded(grid: &Grid, way: Way, seed: u8) -> Result<Way, AllocFailed<Step>>
     requires column { seed < size grid.now }
-    requires leads { Leads grid.now nothing way.steps.items way.progress }
-    ensures leads { IfOk result (λ w. Leads grid.now nothing w.steps.items w.progress) }
+    requires leads { LeadsBySteps grid.now nothing way.steps.items way.progress }
+    ensures leads { IfOk result (λ w. LeadsBySteps grid.now nothing w.steps.items w.progress) }
     ensures keeps { IfOk result (λ w. HasKnown (is_known w.progress) way.progress) }
     ensures taken { IfOk result (λ w. is_known w.progress seed ≡ true) }
     ensures only { IfOk result (λ w. (p : ℕ → Bool) → IsClosed grid.now p → HasKnown p way.progress → p seed ≡ true → HasKnown p w.progress) }
@@ -155,8 +155,8 @@ fn seeded(grid: &Grid, way: Way, seed: u8) -> Result<Way, AllocFailed<Step>>
 
 /// All that follows from what is known.
 fn settle(grid: &Grid, way: Way) -> Result<Way, AllocFailed<Step>>
-    requires leads { Leads grid.now nothing way.steps.items way.progress }
-    ensures leads { IfOk result (λ w. Leads grid.now nothing w.steps.items w.progress) }
+    requires leads { LeadsBySteps grid.now nothing way.steps.items way.progress }
+    ensures leads { IfOk result (λ w. LeadsBySteps grid.now nothing w.steps.items w.progress) }
     ensures stuck { IfOk result (λ w. next_step grid.now w.progress ≡ None) }
     ensures reaches { IfOk result (λ w. Reaches grid.now way.progress w.progress) }
     ensures seeds { IfOk result (λ w. seed_columns w.steps.items ≡ seed_columns way.steps.items) }
@@ -174,7 +174,7 @@ fn settle(grid: &Grid, way: Way) -> Result<Way, AllocFailed<Step>>
 fn with_step(grid: &Grid, way: Way, step: Step) -> Result<Way, AllocFailed<Step>>
     requires { IsAllowed grid.now way.progress step }
     ensures steps { IfOk result (λ w. w.steps.items ≡ way.steps.items ++ step ∷ []) }
-    ensures progress { IfOk result (λ w. w.progress ≡ after grid.now way.progress step) }
+    ensures progress { IfOk result (λ w. w.progress ≡ progress_after grid.now way.progress step) }
 {
     let Way {
         mut steps,

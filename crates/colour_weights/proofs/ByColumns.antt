@@ -18,9 +18,9 @@ use Rattle.colour_laws.proofs.Facts.{crossed_below}
 use Rattle.colour_laws.proofs.Walks.{HasColours, colour_below, covers_same, under_same, chain_step}
 use Rattle.cocycle_core.proofs.Mod.{Same}
 use Rattle.colour_weights.proofs.RowCounts.{same_mod}
-use Rattle.colour_weights.specs.declared.shadow_walker.Walker.{Walker}
+use Rattle.colour_weights.specs.declared.shadow_walker.ShadowWalker.{ShadowWalker}
 use Rattle.cocycle_core.specs.ShadowCocycle.{ShadowCochain, IsShadowCocycle}
-use Rattle.colour_weights.specs.ShadowWalkSum.{gain, stepped, region_left, region_start, walked}
+use Rattle.colour_weights.specs.ShadowWalkSum.{shadow_gain, shadow_stepped, region_left, region_start, shadow_walked}
 use Rattle.colour_weights.proofs.ModSums.{plain, by_one, by_two}
 use Rattle.colour_weights.proofs.RowSums.{gains, beside, sum_on, sum_row}
 use Rattle.colour_weights.proofs.RowSteps.{sum_on_end, sum_on_apart, sum_row_end, sum_row_apart}
@@ -74,10 +74,10 @@ apart_marks r c e = (
     last false = refl
 
 -- the walker at each step
-abbrev pub step_at : ShadowCochain → Diagram → List ℕ → Walker → ℕ → Walker
-step_at t d f at c = stepped t (is_up d c) at (slice_index f c)
+abbrev pub step_at : ShadowCochain → Diagram → List ℕ → ShadowWalker → ℕ → ShadowWalker
+step_at t d f at c = shadow_stepped t (is_up d c) at (slice_index f c)
 
-one_column : (t : ShadowCochain) (d : Diagram) (f : List ℕ) (at : Walker) (i : ℕ) (rest : List ℕ) (b : Bool)
+one_column : (t : ShadowCochain) (d : Diagram) (f : List ℕ) (at : ShadowWalker) (i : ℕ) (rest : List ℕ) (b : Bool)
     → fold (step_at t d f) at (cond b (i ∷ rest) rest) ≡ fold (step_at t d f) (cond b (step_at t d f at i) at) rest
 one_column t d f at i rest true = refl
 one_column t d f at i rest false = refl
@@ -90,7 +90,7 @@ way_same t d f r i a ly la apart =
     sym (under_crosses (act t) r (coloured_at i d.x d.o f) a marks.0 marks.1) ∙ under_same t d f r i a ly la
 
 -- what is known of the walker behind column i, where the walk was at colour a and region u with the sum s
-record IsNext (t : ShadowCochain) (at : Walker) (a u s : ℕ) : Type 0 where
+record IsNext (t : ShadowCochain) (at : ShadowWalker) (a u s : ℕ) : Type 0 where
   colour : at.colour ≡ a
   region : at.region ≡ u
   sum : Same t.modulus at.sum s
@@ -113,15 +113,16 @@ next t cocycle d f r i a u s ly la lu apart =
           ≡ step_at t d f
           (record { colour = a; region = u; sum = s }) i =
           cond-true (covers d i r) (step_at t d f (record { colour = a; region = u; sum = s }) i) (record { colour = a; region = u; sum = s }) b in
-          let gain_is : gain t (is_up d i) u a (slice_index f i) ≡ gains (earned t) r (coloured_at i d.x d.o f) a u =
+          let gain_is : shadow_gain t (is_up d i) u a (slice_index f i) ≡ gains (earned t) r (coloured_at i d.x d.o f) a u =
           sym (earned_inside t (is_up d i) (slice_index f i) a u ly la lu)
           ∙ (sym (cond-true (lists.covers r (coloured_at i d.x d.o f)) (earned t (is_up d i) (slice_index f i) a u) 0 (same ∙ b)) ∙ won) in
-          subst (λ (at : Walker). IsNext t at (crosses (act t.quandle) r (coloured_at i d.x d.o f) a) (crosses (act t.quandle) r (coloured_at i d.x d.o f) u)
+          subst (λ (at : ShadowWalker). IsNext t at (crosses (act t.quandle) r (coloured_at i d.x d.o f) a)
+          (crosses (act t.quandle) r (coloured_at i d.x d.o f) u)
           (s + gains (earned t) r (coloured_at i d.x d.o f) a u)) (sym over)
           (record {
             colour = sym (way_a ∙ cond-true (covers d i r) (under t.quandle d f a i) a b);
             region = sym (way_u ∙ cond-true (covers d i r) (under t.quandle d f u i) u b);
-            sum = by_one (same_mod t.modulus (s + gain t (is_up d i) u a (slice_index f i)) (omega (arith, cocycle.least))) (omega (arith, gain_is));
+            sum = by_one (same_mod t.modulus (s + shadow_gain t (is_up d i) u a (slice_index f i)) (omega (arith, cocycle.least))) (omega (arith, gain_is));
           })
       | inr b ↦
           let over : cond (covers d i r) (step_at t d f (record { colour = a; region = u; sum = s }) i) (record { colour = a; region = u; sum = s })
@@ -129,7 +130,8 @@ next t cocycle d f r i a u s ly la lu apart =
           cond-false (covers d i r) (step_at t d f (record { colour = a; region = u; sum = s }) i) (record { colour = a; region = u; sum = s }) b in
           let none : gains (earned t) r (coloured_at i d.x d.o f) a u ≡ 0 = sym won ∙ cond-false (lists.covers r (coloured_at i d.x d.o f))
           (earned t (is_up d i) (slice_index f i) a u) 0 (same ∙ b) in
-          subst (λ (at : Walker). IsNext t at (crosses (act t.quandle) r (coloured_at i d.x d.o f) a) (crosses (act t.quandle) r (coloured_at i d.x d.o f) u)
+          subst (λ (at : ShadowWalker). IsNext t at (crosses (act t.quandle) r (coloured_at i d.x d.o f) a)
+          (crosses (act t.quandle) r (coloured_at i d.x d.o f) u)
           (s + gains (earned t) r (coloured_at i d.x d.o f) a u)) (sym over)
           (record {
             colour = sym (way_a ∙ cond-false (covers d i r) (under t.quandle d f a i) a b);
@@ -139,7 +141,8 @@ next t cocycle d f r i a u s ly la lu apart =
     ]
 
 -- from a place between the ends on
-sum_between : (t : ShadowCochain) → IsShadowCocycle t → (d : Diagram) (f : List ℕ) → HasColours t.quandle d f → (r : ℕ) → AreEnds d r → (m i : ℕ) (at : Walker)
+sum_between : (t : ShadowCochain) → IsShadowCocycle t → (d : Diagram) (f : List ℕ) → HasColours t.quandle d f → (r : ℕ) → AreEnds d r
+    → (m i : ℕ) (at : ShadowWalker)
     → i + m ≡ (ends d r).high → (ends d r).low < i → at.colour < t.quandle.order → at.region < t.quandle.order
     → Same t.modulus (fold (step_at t d f) at (filter (λ c. covers d c r) (range_with_len i m))).sum
     (at.sum + sum_on (act t.quandle) (earned t) r r at.colour at.region (columns_from i d.x d.o f))
@@ -165,7 +168,7 @@ sum_between t cocycle d f has r known (suc m) i at e low la lu =
     let rest = sum_between t cocycle d f has r known m (suc i) (cond (covers d i r) (step_at t d f at i) at) (omega (arith, e)) (omega (arith, low)) lb lv in
     let one : (fold (step_at t d f) at (filter (λ c. covers d c r) (range_with_len i (suc m)))).sum
     ≡ (fold (step_at t d f) (cond (covers d i r) (step_at t d f at i) at) (filter (λ c. covers d c r) (range_with_len (suc i) m))).sum =
-    ap (λ (v : Walker). v.sum) (one_column t d f at i (filter (λ c. covers d c r) (range_with_len (i + 1) m)) (covers d i r)
+    ap (λ (v : ShadowWalker). v.sum) (one_column t d f at i (filter (λ c. covers d c r) (range_with_len (i + 1) m)) (covers d i r)
     ∙ ap (λ j. fold (step_at t d f) (cond (covers d i r) (step_at t d f at i) at) (filter (λ c. covers d c r) (range_with_len j m))) (let k : i + 1 ≡ suc i =
     omega arith in k)) in
     let two : sum_on (act t.quandle) (earned t) r r at.colour at.region (columns_from i d.x d.o f)
@@ -243,11 +246,11 @@ region_start_below t q d f has r known u lu =
 -- the weighted sum of a row's walk
 pub walked_same : (t : ShadowCochain) → IsShadowCocycle t → (d : Diagram) (f : List ℕ) → HasColours t.quandle d f → (r : ℕ) → AreEnds d r → (u : ℕ)
     → u < t.quandle.order
-    → Same t.modulus (walked t d f u r).sum (sum_row (act t.quandle) (earned t) r r u (columns d.x d.o f))
+    → Same t.modulus (shadow_walked t d f u r).sum (sum_row (act t.quandle) (earned t) r r u (columns d.x d.o f))
 walked_same t cocycle d f has r known u lu =
     let q = cocycle.quandle in
     let la : slice_index f (ends d r).low < t.quandle.order = colour_below t.quandle d f has (ends d r).low (omega (arith, known.ordered, known.within)) in
-    let start : Walker = record { colour = slice_index f (ends d r).low; region = region_start t.quandle d f u r; sum = 0 } in
+    let start : ShadowWalker = record { colour = slice_index f (ends d r).low; region = region_start t.quandle d f u r; sum = 0 } in
     let lv = region_start_below t q d f has r known u lu in
     let whole = sum_between t cocycle d f has r known ((ends d r).high - (ends d r).low - 1) ((ends d r).low + 1)
     (record { colour = slice_index f (ends d r).low; region = region_start t.quandle d f u r; sum = 0 }) (omega (arith, known.ordered)) (omega arith) la lv in

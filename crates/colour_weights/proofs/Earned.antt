@@ -7,8 +7,8 @@ use Rattle.colour_laws.proofs.ColouredColumns.{act}
 use Rattle.colour_laws.proofs.Tables.{act_up, act_down, act_outside}
 use Rattle.cocycle_core.proofs.Mod.{Same}
 use Rattle.colour_weights.proofs.RowCounts.{same_from_mod, same_minus}
-use Rattle.cocycle_core.specs.ShadowCocycle.{ShadowCochain, IsShadowCocycle, value, one_side, other_side}
-use Rattle.colour_weights.specs.ShadowWalkSum.{gain}
+use Rattle.cocycle_core.specs.ShadowCocycle.{ShadowCochain, IsShadowCocycle, shadow_value, one_side, other_side}
+use Rattle.colour_weights.specs.ShadowWalkSum.{shadow_gain}
 use Rattle.colour_weights.proofs.ModSums.{plain, by_one}
 use Rattle.colour_weights.proofs.RowSums.{Weighs}
 
@@ -18,29 +18,29 @@ are_colours q u a y = nat_lt u q.order && (nat_lt a q.order && nat_lt y q.order)
 
 -- what a walk at colour a and region u gains under an up column (true) or a down column (false) of colour y
 abbrev pub earned : ShadowCochain → Bool → ℕ → ℕ → ℕ → ℕ
-earned t up y a u = if are_colours t.quandle u a y then gain t up u a y else 0
+earned t up y a u = if are_colours t.quandle u a y then shadow_gain t up u a y else 0
 
 pub earned_inside : (t : ShadowCochain) (up : Bool) (y a u : ℕ) → y < t.quandle.order → a < t.quandle.order → u < t.quandle.order
-    → earned t up y a u ≡ gain t up u a y
+    → earned t up y a u ≡ shadow_gain t up u a y
 earned_inside t up y a u ly la lu =
-    cond-true (are_colours t.quandle u a y) (gain t up u a y) 0
+    cond-true (are_colours t.quandle u a y) (shadow_gain t up u a y) 0
     (and_from (nat_lt u t.quandle.order) (nat_lt a t.quandle.order && nat_lt y t.quandle.order) (lt-ltb u t.quandle.order lu)
     (and_from (nat_lt a t.quandle.order) (nat_lt y t.quandle.order) (lt-ltb a t.quandle.order la) (lt-ltb y t.quandle.order ly)))
 
 no_region : (t : ShadowCochain) (up : Bool) (y a u : ℕ) → t.quandle.order ≤ u → earned t up y a u ≡ 0
 no_region t up y a u out =
-    cond-false (are_colours t.quandle u a y) (gain t up u a y) 0
+    cond-false (are_colours t.quandle u a y) (shadow_gain t up u a y) 0
     (and_left (nat_lt u t.quandle.order) (nat_lt a t.quandle.order && nat_lt y t.quandle.order) (le-ltb u t.quandle.order out))
 
 no_colour : (t : ShadowCochain) (up : Bool) (y a u : ℕ) → t.quandle.order ≤ a → earned t up y a u ≡ 0
 no_colour t up y a u out =
-    cond-false (are_colours t.quandle u a y) (gain t up u a y) 0
+    cond-false (are_colours t.quandle u a y) (shadow_gain t up u a y) 0
     (and_right (nat_lt u t.quandle.order) (nat_lt a t.quandle.order && nat_lt y t.quandle.order)
     (and_left (nat_lt a t.quandle.order) (nat_lt y t.quandle.order) (le-ltb a t.quandle.order out)))
 
 no_column : (t : ShadowCochain) (up : Bool) (y a u : ℕ) → t.quandle.order ≤ y → earned t up y a u ≡ 0
 no_column t up y a u out =
-    cond-false (are_colours t.quandle u a y) (gain t up u a y) 0
+    cond-false (are_colours t.quandle u a y) (shadow_gain t up u a y) 0
     (and_right (nat_lt u t.quandle.order) (nat_lt a t.quandle.order && nat_lt y t.quandle.order)
     (and_right (nat_lt a t.quandle.order) (nat_lt y t.quandle.order) (le-ltb y t.quandle.order out)))
 
@@ -75,10 +75,10 @@ earned_up_down t cocycle y a u = elim (either t.quandle.order y a u) [
       let lb = q.back_within a y l.1 l.0 in
       let lv = q.back_within u y l.2 l.0 in
       let most = cocycle.within (back t.quandle u y) (back t.quandle a y) y lv lb l.0 in
-      let two : earned t false y (act t.quandle true y a) (act t.quandle true y u) ≡ value t (back t.quandle u y) (back t.quandle a y) y =
+      let two : earned t false y (act t.quandle true y a) (act t.quandle true y u) ≡ shadow_value t (back t.quandle u y) (back t.quandle a y) y =
       ap₂ (λ m n. earned t false y m n) (act_up t.quandle y a l.0 l.1) (act_up t.quandle y u l.0 l.2)
       ∙ earned_inside t false y (back t.quandle a y) (back t.quandle u y) l.0 lb lv in
-      by_one (same_minus t.modulus (value t (back t.quandle u y) (back t.quandle a y) y) (omega (arith, cocycle.least)) (omega (arith, most)))
+      by_one (same_minus t.modulus (shadow_value t (back t.quandle u y) (back t.quandle a y) y) (omega (arith, cocycle.least)) (omega (arith, most)))
       (omega (arith, earned_inside t true y a u l.0 l.1 l.2, two))
 ]
 
@@ -91,11 +91,11 @@ earned_down_up t cocycle y a u = elim (either t.quandle.order y a u) [
       let lb = q.within a y l.1 l.0 in
       let lv = q.within u y l.2 l.0 in
       let most = cocycle.within u a y l.2 l.1 l.0 in
-      let two : earned t true y (act t.quandle false y a) (act t.quandle false y u) ≡ (t.modulus - value t u a y) % t.modulus =
+      let two : earned t true y (act t.quandle false y a) (act t.quandle false y u) ≡ (t.modulus - shadow_value t u a y) % t.modulus =
       ap₂ (λ m n. earned t true y m n) (act_down t.quandle y a l.0 l.1) (act_down t.quandle y u l.0 l.2)
       ∙ (earned_inside t true y (over t.quandle a y) (over t.quandle u y) l.0 lb lv
-      ∙ ap₂ (λ m n. (t.modulus - value t m n y) % t.modulus) (q.back_over u y l.2 l.0) (q.back_over a y l.1 l.0)) in
-      by_one (same_minus t.modulus (value t u a y) (omega (arith, cocycle.least)) (omega (arith, most)))
+      ∙ ap₂ (λ m n. (t.modulus - shadow_value t m n y) % t.modulus) (q.back_over u y l.2 l.0) (q.back_over a y l.1 l.0)) in
+      by_one (same_minus t.modulus (shadow_value t u a y) (omega (arith, cocycle.least)) (omega (arith, most)))
       (omega (arith, earned_inside t false y a u l.0 l.1 l.2, two))
 ]
 
@@ -112,9 +112,9 @@ earned_own t cocycle up y u = elim (either t.quandle.order y y u) [
     by_way true l =
         let q = cocycle.quandle in
         let same : back t.quandle y y ≡ y = ap (λ z. back t.quandle z y) (sym (q.idempotent y l.0)) ∙ q.back_over y y l.0 l.0 in
-        let none : value t (back t.quandle u y) (back t.quandle y y) y ≡ 0 =
-        ap (λ z. value t (back t.quandle u y) z y) same ∙ cocycle.diagonal (back t.quandle u y) y (q.back_within u y l.2 l.0) l.0 in
-        by_one (same_minus t.modulus (value t (back t.quandle u y) (back t.quandle y y) y) (omega (arith, cocycle.least)) (omega (arith, none)))
+        let none : shadow_value t (back t.quandle u y) (back t.quandle y y) y ≡ 0 =
+        ap (λ z. shadow_value t (back t.quandle u y) z y) same ∙ cocycle.diagonal (back t.quandle u y) y (q.back_within u y l.2 l.0) l.0 in
+        by_one (same_minus t.modulus (shadow_value t (back t.quandle u y) (back t.quandle y y) y) (omega (arith, cocycle.least)) (omega (arith, none)))
         (omega (arith, earned_inside t true y y u l.0 l.1 l.2, none))
 
 earned_third : (t : ShadowCochain) → IsShadowCocycle t → (z y a u : ℕ)
@@ -171,19 +171,19 @@ earned_third t cocycle z y a u =
             let ly = l.0 in
             let la = l.1 in
             let lu = l.2 in
-            let one : earned t false y a u ≡ value t u a y = earned_inside t false y a u ly la lu in
-            let two : earned t false z (act t.quandle false y a) (act t.quandle false y u) ≡ value t (over t.quandle u y) (over t.quandle a y) z =
+            let one : earned t false y a u ≡ shadow_value t u a y = earned_inside t false y a u ly la lu in
+            let two : earned t false z (act t.quandle false y a) (act t.quandle false y u) ≡ shadow_value t (over t.quandle u y) (over t.quandle a y) z =
             ap₂ (λ m n. earned t false z m n) (act_down t.quandle y a ly la) (act_down t.quandle y u ly lu)
             ∙ earned_inside t false z (over t.quandle a y) (over t.quandle u y) lz (q.within a y la ly) (q.within u y lu ly) in
-            let three : earned t false z y u ≡ value t u y z = earned_inside t false z y u lz ly lu in
-            let four : earned t false z a u ≡ value t u a z = earned_inside t false z a u lz la lu in
+            let three : earned t false z y u ≡ shadow_value t u y z = earned_inside t false z y u lz ly lu in
+            let four : earned t false z a u ≡ shadow_value t u a z = earned_inside t false z a u lz la lu in
             let five : earned t false (act t.quandle false z y) (act t.quandle false z a) (act t.quandle false z u)
-            ≡ value t (over t.quandle u z) (over t.quandle a z) (over t.quandle y z) =
+            ≡ shadow_value t (over t.quandle u z) (over t.quandle a z) (over t.quandle y z) =
             ap (λ m. earned t false m (act t.quandle false z a) (act t.quandle false z u)) (act_down t.quandle z y lz ly)
             ∙ ap₂ (λ m n. earned t false (over t.quandle y z) m n) (act_down t.quandle z a lz la) (act_down t.quandle z u lz lu)
             ∙ earned_inside t false (over t.quandle y z) (over t.quandle a z) (over t.quandle u z) (q.within y z ly lz) (q.within a z la lz)
             (q.within u z lu lz) in
-            let six : earned t false z y (act t.quandle false a u) ≡ value t (over t.quandle u a) y z =
+            let six : earned t false z y (act t.quandle false a u) ≡ shadow_value t (over t.quandle u a) y z =
             ap (earned t false z y) (act_down t.quandle a u la lu) ∙ earned_inside t false z y (over t.quandle u a) lz ly (q.within u a lu la) in
             by_one (same_from_mod t.modulus (one_side t u a y z) (other_side t u a y z) (omega (arith, cocycle.least)) (cocycle.law u a y z lu la ly lz))
             (omega (arith, one, two, three, four, five, six))

@@ -30,7 +30,7 @@ use Rattle.colour_laws.proofs.Exchanges as exchanges
 use Rattle.colour_laws.proofs.ExchangeSteps.{AreFree, are_free, exchanged_swapped, map_same}
 use Rattle.colour_laws.proofs.ColumnExchangeSteps.{exchanged_is, moved_row, to_right, to_left, stays}
 use Rattle.cocycle_core.specs.ShadowCocycle.{ShadowCochain, IsShadowCocycle}
-use Rattle.colour_weights.specs.ShadowWalkSum.{weight_by_rows}
+use Rattle.colour_weights.specs.ShadowWalkSum.{shadow_weight_by_rows}
 use Rattle.colour_weights.proofs.RowSums.{Weighs, HaveSameWeight}
 use Rattle.colour_weights.proofs.TradedRows.{rows_traded_weight, inner_of_together}
 use Rattle.colour_weights.proofs.PairedRows.{is_inner}
@@ -44,7 +44,7 @@ pub by_traded_rows : (w : ShadowCochain) → IsShadowCocycle w → (z : ℕ) →
     → suc r < size d → e.x ≡ map (swapped r) d.x → e.o ≡ map (swapped r) d.o
     → (f : List ℕ) → IsColouringByColumns w.quandle d f → IsColouringByColumns w.quandle e f
     → (is_inner r (suc r) (columns d.x d.o f) ≡ true) ⊎ (is_inner (suc r) r (columns d.x d.o f) ≡ true)
-    → weight_by_rows w e f z ≡ weight_by_rows w d f z
+    → shadow_weight_by_rows w e f z ≡ shadow_weight_by_rows w d f z
 by_traded_rows w cocycle z lz d e grid grid' r high hx ho f old new inner =
     let q = cocycle.quandle in
     let marked = marked_columns d f grid old.size in
@@ -69,7 +69,7 @@ by_traded_rows w cocycle z lz d e grid grid' r high hx ho f old new inner =
 -- an exchange of rows
 pub exchange_of_rows : (w : ShadowCochain) → IsShadowCocycle w → (z : ℕ) → z < w.quandle.order → (d e : Diagram) (r : ℕ) → Step d (ExchangeRows r) e
     → (f : List ℕ) → IsColouring w.quandle d f
-    → weight_by_rows w e (carried w.quandle d (ExchangeRows r) f) z ≡ weight_by_rows w d f z
+    → shadow_weight_by_rows w e (carried w.quandle d (ExchangeRows r) f) z ≡ shadow_weight_by_rows w d f z
 exchange_of_rows w cocycle z lz d e r step f colouring =
     let q = cocycle.quandle in
     let grid = step.before in
@@ -141,7 +141,7 @@ traded_weight k p G acts w z n front (suc c) (u ∷ cs) within tradable old new 
 -- an exchange of columns
 pub exchange_of_columns : (w : ShadowCochain) → IsShadowCocycle w → (z : ℕ) → z < w.quandle.order → (d e : Diagram) (c : ℕ) → Step d (ExchangeColumns c) e
     → (f : List ℕ) → IsColouring w.quandle d f
-    → weight_by_rows w e (carried w.quandle d (ExchangeColumns c) f) z ≡ weight_by_rows w d f z
+    → shadow_weight_by_rows w e (carried w.quandle d (ExchangeColumns c) f) z ≡ shadow_weight_by_rows w d f z
 exchange_of_columns w cocycle z lz d e c step f colouring =
     let q = cocycle.quandle in
     let grid = step.before in
@@ -177,7 +177,7 @@ exchange_of_columns w cocycle z lz d e c step f colouring =
     (coloured_columns w.quandle e grid' (traded_colours w.quandle c d f) new)) in
     let same = traded_weight w.modulus (act w.quandle) (earned w) (act_acts w.quandle q) (earned_weighs w cocycle) z (size d) [] c (columns d.x d.o f)
     (inside d (columns d.x d.o f) grid marked) able (coloured_columns w.quandle d grid f old) coloured' in
-    ap (λ c. weight_by_rows w e c z) (sym is)
+    ap (λ c. shadow_weight_by_rows w e c z) (sym is)
     ∙ by_new_columns w cocycle z lz d e grid grid' f (traded_colours w.quandle c d f) old new
     (columns_traded (act w.quandle) c (columns d.x d.o f)) marked' refl
     (subst (λ (m : ℕ). HaveSameWeight w.modulus (act w.quandle) (earned w) z (size d) (columns d.x d.o f) m

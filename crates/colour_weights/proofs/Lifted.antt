@@ -17,19 +17,20 @@ use Rattle.colour_laws.proofs.RowEnds.{AreEnds, are_ends}
 use Rattle.colour_laws.proofs.Walks.{HasColours, colour_below, chain_step}
 use Rattle.cocycle_core.specs.Cocycle.{Cochain, IsCocycle}
 use Rattle.cocycle_core.specs.Cocycle as plain
-use Rattle.colour_weights.specs.ShadowWeight.{colour_beside, difference, crossing_value, shadow_weight}
+use Rattle.colour_weights.specs.ShadowWeight.{colour_beside, difference, shadow_crossing_value, shadow_weight}
 use Rattle.colour_weights.specs.Weight.{weight}
 use Rattle.colour_weights.specs.Weight as plain_weight
 use Rattle.colour_weights.proofs.ShadowCarried.{colours_of}
 use Rattle.colour_weights.proofs.ShadowCrossingSums.{rightward_below}
 use Rattle.colour_weights.proofs.Parted.{fold_below}
 use Rattle.colour_weights.proofs.RowCounts.{sum_total, add_mod, total_equal}
-use Rattle.cocycle_core.specs.ShadowCocycle.{IsShadowCocycle, value, one_side, other_side}
+use Rattle.cocycle_core.specs.ShadowCocycle.{IsShadowCocycle, shadow_value, one_side, other_side}
 use Rattle.colour_weights.specs.Region.{region_beside, height_beside}
-use Rattle.colour_weights.specs.Lifted.{lifted}
+use Rattle.colour_weights.specs.Lifted.{lifted_cochain}
 
 -- the number at a place
-value_same : (w : Cochain) (u x y : ℕ) → u < w.quandle.order → x < w.quandle.order → y < w.quandle.order → value (lifted w) u x y ≡ plain.value w x y
+value_same : (w : Cochain) (u x y : ℕ) → u < w.quandle.order → x < w.quandle.order → y < w.quandle.order
+    → shadow_value (lifted_cochain w) u x y ≡ plain.value w x y
 value_same w u x y lu lx ly =
     let n : ℕ = w.quandle.order in
     let row : u * w.quandle.order + x < w.quandle.order * w.quandle.order = mul-add-lt u w.quandle.order x w.quandle.order lu lx in
@@ -42,7 +43,7 @@ value_same w u x y lu lx ly =
     ∙ ap (slice_index w.entries) (ap (λ k. k % (w.quandle.order * w.quandle.order)) parts
     ∙ mod-mul-add u (w.quandle.order * w.quandle.order) (x * w.quandle.order + y) place)
 
-pub lifted_cocycle : (w : Cochain) → IsCocycle w → IsShadowCocycle (lifted w)
+pub lifted_cocycle : (w : Cochain) → IsCocycle w → IsShadowCocycle (lifted_cochain w)
 lifted_cocycle w cocycle =
     let q = cocycle.quandle in
     record {
@@ -62,7 +63,7 @@ lifted_cocycle w cocycle =
           let lcd = q.within c d lc ld in
           law_of w cocycle (plain.value w b c + plain.value w (over w.quandle b c) d)
           (plain.value w b d + plain.value w (over w.quandle b d) (over w.quandle c d)) (plain.value w c d)
-          (one_side (lifted w) a b c d) (other_side (lifted w) a b c d)
+          (one_side (lifted_cochain w) a b c d) (other_side (lifted_cochain w) a b c d)
           (cocycle.law b c d lb lc ld)
           (omega (
             arith,
@@ -110,7 +111,7 @@ sum_twice f g p q a (suc m) same =
 
 -- one crossing
 crossing_same : (w : Cochain) → IsCocycle w → (d : Diagram) (f : List ℕ) → HasColours w.quandle d f → (z : ℕ) → z < w.quandle.order → (c r : ℕ) → r < size d
-    → AreEnds d r → (ends d r).low < c → c < (ends d r).high → crossing_value (lifted w) d f z c r ≡ plain_weight.crossing_value w d f c r
+    → AreEnds d r → (ends d r).low < c → c < (ends d r).high → shadow_crossing_value (lifted_cochain w) d f z c r ≡ plain_weight.crossing_value w d f c r
 crossing_same w cocycle d f has z lz c r lr known low high =
     let q = cocycle.quandle in
     let inside : c < size d = omega (arith, high, known.within) in
@@ -134,21 +135,22 @@ crossing_same w cocycle d f has z lz c r lr known low high =
 -- the sum of a test's crossings
 sum_same : (w : Cochain) → IsCocycle w → (d : Diagram) → IsGrid d → (f : List ℕ) → HasColours w.quandle d f → (z : ℕ) → z < w.quandle.order
     → (p : ℕ → ℕ → Bool)
-    → sum_by (λ r. sum_by (λ c. crossing_value (lifted w) d f z c r) (filter (p r) (passed d r))) (range_with_len 0 (size d))
+    → sum_by (λ r. sum_by (λ c. shadow_crossing_value (lifted_cochain w) d f z c r) (filter (p r) (passed d r))) (range_with_len 0 (size d))
     ≡ sum_by (λ r. sum_by (λ c. plain_weight.crossing_value w d f c r) (filter (p r) (passed d r))) (range_with_len 0 (size d))
 sum_same w cocycle d grid f has z lz p =
-    sum_total (λ r. sum_by (λ c. crossing_value (lifted w) d f z c r) (filter (p r) (passed d r))) (size d)
-    ∙ (total_equal (λ r. sum_by (λ c. crossing_value (lifted w) d f z c r) (filter (p r) (passed d r)))
+    sum_total (λ r. sum_by (λ c. shadow_crossing_value (lifted_cochain w) d f z c r) (filter (p r) (passed d r))) (size d)
+    ∙ (total_equal (λ r. sum_by (λ c. shadow_crossing_value (lifted_cochain w) d f z c r) (filter (p r) (passed d r)))
     (λ r. sum_by (λ c. plain_weight.crossing_value w d f c r) (filter (p r) (passed d r))) (size d)
     (λ r lr.
     let known = are_ends d grid r lr in
-    sum_twice (λ c. crossing_value (lifted w) d f z c r) (λ c. plain_weight.crossing_value w d f c r) (p r) (λ c. covers d c r) ((ends d r).low + 1)
+    sum_twice (λ c. shadow_crossing_value (lifted_cochain w) d f z c r) (λ c. plain_weight.crossing_value w d f c r) (p r) (λ c. covers d c r)
+    ((ends d r).low + 1)
     ((ends d r).high - (ends d r).low - 1)
     (λ c le lt. crossing_same w cocycle d f has z lz c r lr known (omega (arith, le)) (omega (arith, lt, known.ordered))))
     ∙ sym (sum_total (λ r. sum_by (λ c. plain_weight.crossing_value w d f c r) (filter (p r) (passed d r))) (size d)))
 
 pub lifted_weight : (w : Cochain) → IsCocycle w → (d : Diagram) → IsGrid d → (f : List ℕ) → IsColouring w.quandle d f → (z : ℕ) → z < w.quandle.order
-    → shadow_weight (lifted w) d f z ≡ weight w d f
+    → shadow_weight (lifted_cochain w) d f z ≡ weight w d f
 lifted_weight w cocycle d grid f colouring z lz =
     let has = colours_of w.quandle d grid f colouring in
     ap₂ (difference w.modulus) (sum_same w cocycle d grid f has z lz (λ r c. is_positive d c r))

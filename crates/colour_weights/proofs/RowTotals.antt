@@ -17,9 +17,9 @@ use Rattle.colour_laws.proofs.Walks.{HasColours}
 use Rattle.cocycle_core.proofs.Mod.{Same}
 use Rattle.colour_weights.proofs.RowCounts.{total, total_same, total_plus, same_mod, same_minus, sum_total, equal_below, mod_below}
 use Rattle.colour_weights.proofs.Ways.{rightward, rightward_end, rightward_apart}
-use Rattle.colour_weights.specs.declared.shadow_walker.Walker.{Walker}
+use Rattle.colour_weights.specs.declared.shadow_walker.ShadowWalker.{ShadowWalker}
 use Rattle.cocycle_core.specs.ShadowCocycle.{ShadowCochain, IsShadowCocycle}
-use Rattle.colour_weights.specs.ShadowWalkSum.{region_start, walked, row_weight, weight_by_rows}
+use Rattle.colour_weights.specs.ShadowWalkSum.{region_start, shadow_walked, shadow_row_weight, shadow_weight_by_rows}
 use Rattle.colour_weights.proofs.ModSums.{turn, by_one, by_two}
 use Rattle.colour_weights.proofs.RowSums.{sum_row, right_part, left_part, HaveSameWeight}
 use Rattle.colour_weights.proofs.Earned.{earned}
@@ -63,26 +63,26 @@ rightward_same t d grid f has r lt =
     rightward_to_left d f has.rings has.size r (are_ends d grid r lt) (ends d r).low 0 (omega arith) ∙ rightward_low d grid r lt
 
 -- sums stay below the modulus
-sum_below : (t : ShadowCochain) → 0 < t.modulus → (d : Diagram) (f cs : List ℕ) (at : Walker) → at.sum < t.modulus
+sum_below : (t : ShadowCochain) → 0 < t.modulus → (d : Diagram) (f cs : List ℕ) (at : ShadowWalker) → at.sum < t.modulus
     → (fold (step_at t d f) at cs).sum < t.modulus
 sum_below t some d f [] at lt = lt
 sum_below t some d f (c ∷ cs) at lt = sum_below t some d f cs (step_at t d f at c) (omega (arith, some))
 
-pub walked_below : (t : ShadowCochain) → 0 < t.modulus → (d : Diagram) (f : List ℕ) (u r : ℕ) → (walked t d f u r).sum < t.modulus
+pub walked_below : (t : ShadowCochain) → 0 < t.modulus → (d : Diagram) (f : List ℕ) (u r : ℕ) → (shadow_walked t d f u r).sum < t.modulus
 walked_below t some d f u r =
     sum_below t some d f (passed d r) (record { colour = slice_index f (ends d r).low; region = region_start t.quandle d f u r; sum = 0 }) some
 
 -- what a row counts for
 row_counts : (t : ShadowCochain) → IsShadowCocycle t → (d : Diagram) → IsGrid d → (f : List ℕ) → HasColours t.quandle d f → (u : ℕ) → u < t.quandle.order
     → (r : ℕ) → r < size d
-    → Same t.modulus (row_weight t d f u r + left_part (act t.quandle) (earned t) u r (columns d.x d.o f))
+    → Same t.modulus (shadow_row_weight t d f u r + left_part (act t.quandle) (earned t) u r (columns d.x d.o f))
     (right_part (act t.quandle) (earned t) u r (columns d.x d.o f))
 row_counts t cocycle d grid f has u lu r lt =
     let way = rightward_same t d grid f has r lt in
     let sum = walked_same t cocycle d f has r (are_ends d grid r lt) u lu in
-    subst (λ (b : Bool). Same t.modulus (row_weight t d f u r + cond b 0 (sum_row (act t.quandle) (earned t) r r u (columns d.x d.o f)))
+    subst (λ (b : Bool). Same t.modulus (shadow_row_weight t d f u r + cond b 0 (sum_row (act t.quandle) (earned t) r r u (columns d.x d.o f)))
     (cond b (sum_row (act t.quandle) (earned t) r r u (columns d.x d.o f)) 0)) (sym way)
-    (by_way (is_rightward d r) (walked t d f u r).sum (sum_row (act t.quandle) (earned t) r r u (columns d.x d.o f))
+    (by_way (is_rightward d r) (shadow_walked t d f u r).sum (sum_row (act t.quandle) (earned t) r r u (columns d.x d.o f))
     (walked_below t (omega (arith, cocycle.least)) d f u r) sum)
   where
     by_way : (b : Bool) (sum row : ℕ) → sum < t.modulus → Same t.modulus sum row
@@ -93,29 +93,29 @@ row_counts t cocycle d grid f has u lu r lt =
 
 -- the weight by rows and the rows to the left are the rows to the right
 weight_counts : (t : ShadowCochain) → IsShadowCocycle t → (d : Diagram) → IsGrid d → (f : List ℕ) → HasColours t.quandle d f → (u : ℕ) → u < t.quandle.order
-    → Same t.modulus (weight_by_rows t d f u + total (λ r. left_part (act t.quandle) (earned t) u r (columns d.x d.o f)) (size d))
+    → Same t.modulus (shadow_weight_by_rows t d f u + total (λ r. left_part (act t.quandle) (earned t) u r (columns d.x d.o f)) (size d))
     (total (λ r. right_part (act t.quandle) (earned t) u r (columns d.x d.o f)) (size d))
 weight_counts t cocycle d grid f has u lu =
-    let rows = total_same t.modulus (λ r. row_weight t d f u r + left_part (act t.quandle) (earned t) u r (columns d.x d.o f))
+    let rows = total_same t.modulus (λ r. shadow_row_weight t d f u r + left_part (act t.quandle) (earned t) u r (columns d.x d.o f))
     (λ r. right_part (act t.quandle) (earned t) u r (columns d.x d.o f)) (size d)
     (λ r lt. row_counts t cocycle d grid f has u lu r lt) in
-    by_two (same_mod t.modulus (sum_by (row_weight t d f u) (range_with_len 0 (size d))) (omega (arith, cocycle.least))) rows
+    by_two (same_mod t.modulus (sum_by (shadow_row_weight t d f u) (range_with_len 0 (size d))) (omega (arith, cocycle.least))) rows
     (omega (
       arith,
-      sum_total (row_weight t d f u) (size d),
-      total_plus (λ r. row_weight t d f u r) (λ r. left_part (act t.quandle) (earned t) u r (columns d.x d.o f)) (size d),
+      sum_total (shadow_row_weight t d f u) (size d),
+      total_plus (λ r. shadow_row_weight t d f u r) (λ r. left_part (act t.quandle) (earned t) u r (columns d.x d.o f)) (size d),
     ))
 
 -- columns of the same weight give equal weights
 pub equal_weights : (t : ShadowCochain) → IsShadowCocycle t → (d e : Diagram) → IsGrid d → IsGrid e → (f g : List ℕ) → HasColours t.quandle d f
     → HasColours t.quandle e g → (u : ℕ) → u < t.quandle.order
     → HaveSameWeight t.modulus (act t.quandle) (earned t) u (size d) (columns d.x d.o f) (size e) (columns e.x e.o g)
-    → weight_by_rows t e g u ≡ weight_by_rows t d f u
+    → shadow_weight_by_rows t e g u ≡ shadow_weight_by_rows t d f u
 equal_weights t cocycle d e grid grid' f g has has' u lu same =
     let some : 0 < t.modulus = omega (arith, cocycle.least) in
     let old = weight_counts t cocycle d grid f has u lu in
     let new = weight_counts t cocycle e grid' g has' u lu in
-    equal_below t.modulus (weight_by_rows t e g u) (weight_by_rows t d f u)
+    equal_below t.modulus (shadow_weight_by_rows t e g u) (shadow_weight_by_rows t d f u)
     (record { left = new.left + same.right + old.right; right = new.right + same.left + old.left; equal = omega (arith, old.equal, new.equal, same.equal) })
-    (mod_below t.modulus (sum_by (row_weight t e g u) (range_with_len 0 (size e))) some)
-    (mod_below t.modulus (sum_by (row_weight t d f u) (range_with_len 0 (size d))) some)
+    (mod_below t.modulus (sum_by (shadow_row_weight t e g u) (range_with_len 0 (size e))) some)
+    (mod_below t.modulus (sum_by (shadow_row_weight t d f u) (range_with_len 0 (size d))) some)

@@ -10,7 +10,7 @@ use Rattle.colour_laws.proofs.Steps.{step_carries}
 use Rattle.colour_laws.proofs.Walks.{HasColours}
 use Rattle.cocycle_core.specs.ShadowCocycle.{ShadowCochain, IsShadowCocycle}
 use Rattle.colour_weights.specs.ShadowWeight.{shadow_weight}
-use Rattle.colour_weights.specs.ShadowWalkSum.{weight_by_rows}
+use Rattle.colour_weights.specs.ShadowWalkSum.{shadow_weight_by_rows}
 use Rattle.colour_weights.proofs.ShadowCrossingSums.{crossings_are_rows}
 use Rattle.colour_weights.proofs.StepWeights.{step_keeps_rows}
 
@@ -18,7 +18,7 @@ pub colours_of : (t : Table) (d : Diagram) → IsGrid d → (f : List ℕ) → I
 colours_of t d grid f colouring = record { rings = grid.same; size = colouring.colours_are.0; below = colouring.colours_are.1 }
 
 pub by_rows : (w : ShadowCochain) → IsShadowCocycle w → (d : Diagram) → IsGrid d → (f : List ℕ) → IsColouring w.quandle d f → (z : ℕ) → z < w.quandle.order
-    → shadow_weight w d f z ≡ weight_by_rows w d f z
+    → shadow_weight w d f z ≡ shadow_weight_by_rows w d f z
 by_rows w cocycle d grid f colouring z lz = crossings_are_rows w cocycle d grid f (colours_of w.quandle d grid f colouring) z lz
 
 pub step_keeps : (w : ShadowCochain) → IsShadowCocycle w → (d e : Diagram) (move : Move) → Step d move e → (f : List ℕ) → IsColouring w.quandle d f

@@ -18,11 +18,11 @@ use Rattle.colour_rows.specs.Walk.{under, passed, passed_rightward, walk_to}
 use Rattle.colour_laws.proofs.RowEnds.{AreEnds, are_ends}
 use Rattle.colour_laws.proofs.Walks.{HasColours, colour_below}
 use Rattle.colour_laws.proofs.RowShifts.{not_not}
-use Rattle.colour_weights.specs.declared.shadow_walker.Walker.{Walker}
-use Rattle.cocycle_core.specs.ShadowCocycle.{ShadowCochain, IsShadowCocycle, value}
+use Rattle.colour_weights.specs.declared.shadow_walker.ShadowWalker.{ShadowWalker}
+use Rattle.cocycle_core.specs.ShadowCocycle.{ShadowCochain, IsShadowCocycle, shadow_value}
 use Rattle.colour_weights.specs.Region.{region, height_beside}
-use Rattle.colour_weights.specs.ShadowWeight.{crossing_value, positive_sum, negative_sum, shadow_weight, difference}
-use Rattle.colour_weights.specs.ShadowWalkSum.{gain, walked, row_weight, weight_by_rows, region_left, region_start}
+use Rattle.colour_weights.specs.ShadowWeight.{shadow_crossing_value, shadow_positive_sum, shadow_negative_sum, shadow_weight, difference}
+use Rattle.colour_weights.specs.ShadowWalkSum.{shadow_gain, shadow_walked, shadow_row_weight, shadow_weight_by_rows, region_left, region_start}
 use Rattle.cocycle_core.proofs.Mod.{Same, same_turned, same_by_two, same_by_three}
 use Rattle.colour_weights.proofs.RowCounts.{total, total_same, total_plus, same_mod, same_minus, sum_total, equal_below, mod_below}
 use Rattle.colour_weights.proofs.Longer.{fold_longer}
@@ -40,45 +40,46 @@ covering d r from n = filter (λ c. covers d c r) (range_with_len from n)
 
 -- the sums of a row's positive crossings, and of its negative ones
 abbrev positives : ShadowCochain → Diagram → List ℕ → ℕ → ℕ → ℕ
-positives w d f z r = sum_by (λ c. crossing_value w d f z c r) (filter (λ c. is_positive d c r) (passed d r))
+positives w d f z r = sum_by (λ c. shadow_crossing_value w d f z c r) (filter (λ c. is_positive d c r) (passed d r))
 
 abbrev negatives : ShadowCochain → Diagram → List ℕ → ℕ → ℕ → ℕ
-negatives w d f z r = sum_by (λ c. crossing_value w d f z c r) (filter (λ c. not (is_positive d c r)) (passed d r))
+negatives w d f z r = sum_by (λ c. shadow_crossing_value w d f z c r) (filter (λ c. not (is_positive d c r)) (passed d r))
 
 -- the sums of a row's crossings under columns that go up, and under those that go down
 abbrev ups : ShadowCochain → Diagram → List ℕ → ℕ → ℕ → List ℕ → ℕ
-ups w d f z r cs = sum_by (λ c. crossing_value w d f z c r) (filter (is_up d) cs)
+ups w d f z r cs = sum_by (λ c. shadow_crossing_value w d f z c r) (filter (is_up d) cs)
 
 abbrev downs : ShadowCochain → Diagram → List ℕ → ℕ → ℕ → List ℕ → ℕ
-downs w d f z r cs = sum_by (λ c. crossing_value w d f z c r) (filter (λ c. not (is_up d c)) cs)
+downs w d f z r cs = sum_by (λ c. shadow_crossing_value w d f z c r) (filter (λ c. not (is_up d c)) cs)
 
 ups_front : (w : ShadowCochain) (d : Diagram) (f : List ℕ) (z r c : ℕ) (cs : List ℕ)
-    → ups w d f z r (c ∷ cs) ≡ cond (is_up d c) (crossing_value w d f z c r) 0 + ups w d f z r cs
+    → ups w d f z r (c ∷ cs) ≡ cond (is_up d c) (shadow_crossing_value w d f z c r) 0 + ups w d f z r cs
 ups_front w d f z r c cs = front (is_up d c)
   where
     front : (b : Bool)
-        → sum_by (λ c. crossing_value w d f z c r) (cond b (c ∷ filter (is_up d) cs) (filter (is_up d) cs)) ≡ cond b (crossing_value w d f z c r) 0
+        → sum_by (λ c. shadow_crossing_value w d f z c r) (cond b (c ∷ filter (is_up d) cs) (filter (is_up d) cs))
+        ≡ cond b (shadow_crossing_value w d f z c r) 0
         + ups w d f z r cs
-    front true = sum_by-cons (λ c. crossing_value w d f z c r) c (filter (is_up d) cs)
+    front true = sum_by-cons (λ c. shadow_crossing_value w d f z c r) c (filter (is_up d) cs)
     front false = omega arith
 
 downs_front : (w : ShadowCochain) (d : Diagram) (f : List ℕ) (z r c : ℕ) (cs : List ℕ)
-    → downs w d f z r (c ∷ cs) ≡ cond (is_up d c) 0 (crossing_value w d f z c r) + downs w d f z r cs
+    → downs w d f z r (c ∷ cs) ≡ cond (is_up d c) 0 (shadow_crossing_value w d f z c r) + downs w d f z r cs
 downs_front w d f z r c cs = front (is_up d c)
   where
     front : (b : Bool)
-        → sum_by (λ c. crossing_value w d f z c r) (cond (not b) (c ∷ filter (λ c. not (is_up d c)) cs) (filter (λ c. not (is_up d c)) cs)) ≡ cond b 0
-        (crossing_value w d f z c r) + downs w d f z r cs
+        → sum_by (λ c. shadow_crossing_value w d f z c r) (cond (not b) (c ∷ filter (λ c. not (is_up d c)) cs) (filter (λ c. not (is_up d c)) cs)) ≡ cond b 0
+        (shadow_crossing_value w d f z c r) + downs w d f z r cs
     front true = omega arith
-    front false = sum_by-cons (λ c. crossing_value w d f z c r) c (filter (λ c. not (is_up d c)) cs)
+    front false = sum_by-cons (λ c. shadow_crossing_value w d f z c r) c (filter (λ c. not (is_up d c)) cs)
 
 -- one crossing: what it gains, and its term
 one_crossing : (w : ShadowCochain) → IsShadowCocycle w → (up : Bool) (u a y : ℕ) → u < w.quandle.order → a < w.quandle.order → y < w.quandle.order
-    → Same w.modulus (gain w up u a y
-    + cond up (value w (cond up (passed_rightward w.quandle up u y) u) (cond up (passed_rightward w.quandle up a y) a) y) 0)
-    (cond up 0 (value w (cond up (passed_rightward w.quandle up u y) u) (cond up (passed_rightward w.quandle up a y) a) y))
+    → Same w.modulus (shadow_gain w up u a y
+    + cond up (shadow_value w (cond up (passed_rightward w.quandle up u y) u) (cond up (passed_rightward w.quandle up a y) a) y) 0)
+    (cond up 0 (shadow_value w (cond up (passed_rightward w.quandle up u y) u) (cond up (passed_rightward w.quandle up a y) a) y))
 one_crossing w cocycle true u a y lu la ly =
-    same_minus w.modulus (value w (back w.quandle u y) (back w.quandle a y) y) (omega (arith, cocycle.least)) (let most =
+    same_minus w.modulus (shadow_value w (back w.quandle u y) (back w.quandle a y) y) (omega (arith, cocycle.least)) (let most =
     cocycle.within (back w.quandle u y) (back w.quandle a y) y (cocycle.quandle.back_within u y lu ly) (cocycle.quandle.back_within a y la ly) ly in
     omega (arith, most))
 one_crossing w cocycle false u a y lu la ly = plain (omega arith)
@@ -145,7 +146,7 @@ region_begins w d grid f z r lt known =
 
 -- from column i on, n columns before the right end
 rest_of_row : (w : ShadowCochain) → IsShadowCocycle w → (d : Diagram) (f : List ℕ) → HasColours w.quandle d f → (z r : ℕ) → AreEnds d r
-    → (n i : ℕ) (at : Walker)
+    → (n i : ℕ) (at : ShadowWalker)
     → i + n ≡ (ends d r).high → (ends d r).low < i → at.colour < w.quandle.order → at.region < w.quandle.order
     → at.colour ≡ fold (under w.quandle d f) (slice_index f (ends d r).low) (covering d r ((ends d r).low + 1) (i - ((ends d r).low + 1)))
     → at.region ≡ beside_row w d f z r i
@@ -182,19 +183,21 @@ rest_of_row w cocycle d f has z r known (suc n) i at e low la lv colour place_is
           let beside_is : region w.quandle d f z (height_beside d r) (cond (is_up d i) (i + 1) i)
           ≡ cond (is_up d i) (passed_rightward w.quandle (is_up d i) at.region (slice_index f i)) at.region =
           by_side w d f z r i (is_up d i) (passed_rightward w.quandle (is_up d i) at.region (slice_index f i)) at.region (sym region') (sym place_is) in
-          let term : crossing_value w d f z i r ≡ value w (cond (is_up d i) (passed_rightward w.quandle (is_up d i) at.region (slice_index f i)) at.region)
+          let term : shadow_crossing_value w d f z i r
+          ≡ shadow_value w (cond (is_up d i) (passed_rightward w.quandle (is_up d i) at.region (slice_index f i)) at.region)
           (cond (is_up d i) (passed_rightward w.quandle (is_up d i) at.colour (slice_index f i)) at.colour)
           (slice_index f i) =
-          ap₂ (λ v b. value w v (cond (is_up d i) (under w.quandle d f b i) b) (slice_index f i)) beside_is before in
+          ap₂ (λ v b. shadow_value w v (cond (is_up d i) (under w.quandle d f b i) b) (slice_index f i)) beside_is before in
           let one = one_crossing w cocycle (is_up d i) at.region at.colour (slice_index f i) lv la ly in
-          let one' : Same w.modulus (gain w (is_up d i) at.region at.colour (slice_index f i) + cond (is_up d i) (crossing_value w d f z i r) 0)
-          (cond (is_up d i) 0 (crossing_value w d f z i r)) =
-          subst (λ (v : ℕ). Same w.modulus (gain w (is_up d i) at.region at.colour (slice_index f i) + cond (is_up d i) v 0) (cond (is_up d i) 0 v)) (sym term)
+          let one' : Same w.modulus (shadow_gain w (is_up d i) at.region at.colour (slice_index f i) + cond (is_up d i) (shadow_crossing_value w d f z i r) 0)
+          (cond (is_up d i) 0 (shadow_crossing_value w d f z i r)) =
+          subst (λ (v : ℕ). Same w.modulus (shadow_gain w (is_up d i) at.region at.colour (slice_index f i) + cond (is_up d i) v 0) (cond (is_up d i) 0 v))
+          (sym term)
           one in
           let some : 0 < w.modulus = omega (arith, cocycle.least) in
           let whole : Same w.modulus ((fold (step_at w d f) (step_at w d f at i) (covering d r (i + 1) n)).sum + ups w d f z r (i ∷ covering d r (i + 1) n))
           (at.sum + downs w d f z r (i ∷ covering d r (i + 1) n)) =
-          by_three rest (same_mod w.modulus (at.sum + gain w (is_up d i) at.region at.colour (slice_index f i)) some) one'
+          by_three rest (same_mod w.modulus (at.sum + shadow_gain w (is_up d i) at.region at.colour (slice_index f i)) some) one'
           (omega (arith, ups_front w d f z r i (covering d r (i + 1) n), downs_front w d f z r i (covering d r (i + 1) n))) in
           subst (λ (l : List ℕ). Same w.modulus ((fold (step_at w d f) at l).sum + ups w d f z r l) (at.sum + downs w d f z r l)) (sym is) whole
       | inr apart ↦
@@ -214,7 +217,7 @@ rest_of_row w cocycle d f has z r known (suc n) i at e low la lv colour place_is
 whole_row : (w : ShadowCochain) → IsShadowCocycle w → (d : Diagram) → IsGrid d → (f : List ℕ) → HasColours w.quandle d f → (z : ℕ) → z < w.quandle.order
     → (r : ℕ)
     → r < size d → AreEnds d r
-    → Same w.modulus ((walked w d f z r).sum + ups w d f z r (passed d r)) (downs w d f z r (passed d r))
+    → Same w.modulus ((shadow_walked w d f z r).sum + ups w d f z r (passed d r)) (downs w d f z r (passed d r))
 whole_row w cocycle d grid f has z lz r lt known =
     let la : slice_index f (ends d r).low < w.quandle.order = colour_below w.quandle d f has (ends d r).low (omega (arith, known.ordered, known.within)) in
     let lv = region_start_below w cocycle.quandle d f has r known z lz in
@@ -246,12 +249,12 @@ same_filter p q same (c ∷ cs) = ap₂ (λ t l. cond t (c ∷ l) l) (same c) (s
 -- the positive and the negative crossings of a row
 row_signs : (w : ShadowCochain) → IsShadowCocycle w → (d : Diagram) → IsGrid d → (f : List ℕ) → HasColours w.quandle d f → (z : ℕ) → z < w.quandle.order
     → (r : ℕ) → r < size d → AreEnds d r
-    → Same w.modulus (row_weight w d f z r + negatives w d f z r) (positives w d f z r)
+    → Same w.modulus (shadow_row_weight w d f z r + negatives w d f z r) (positives w d f z r)
 row_signs w cocycle d grid f has z lz r lt known =
-    subst (λ (l : List ℕ). Same w.modulus (row_weight w d f z r + negatives w d f z r) (sum_by (λ c. crossing_value w d f z c r) l))
+    subst (λ (l : List ℕ). Same w.modulus (shadow_row_weight w d f z r + negatives w d f z r) (sum_by (λ c. shadow_crossing_value w d f z c r) l))
     (sym (same_filter (λ c. is_positive d c r) (λ c. cond (is_rightward d r) (not (is_up d c)) (is_up d c)) (λ c. positive_by_directions d c r) (passed d r)))
-    (subst (λ (l : List ℕ). Same w.modulus (row_weight w d f z r + sum_by (λ c. crossing_value w d f z c r) l)
-    (sum_by (λ c. crossing_value w d f z c r) (filter (λ c. cond (is_rightward d r) (not (is_up d c)) (is_up d c)) (passed d r))))
+    (subst (λ (l : List ℕ). Same w.modulus (shadow_row_weight w d f z r + sum_by (λ c. shadow_crossing_value w d f z c r) l)
+    (sum_by (λ c. shadow_crossing_value w d f z c r) (filter (λ c. cond (is_rightward d r) (not (is_up d c)) (is_up d c)) (passed d r))))
     (sym (same_filter (λ c. not (is_positive d c r)) (λ c. not (cond (is_rightward d r) (not (is_up d c)) (is_up d c)))
     (λ c. ap not (positive_by_directions d c r)) (passed d r)))
     (by_way (is_rightward d r)))
@@ -260,19 +263,21 @@ row_signs w cocycle d grid f has z lz r lt known =
     some = omega (arith, cocycle.least)
 
     by_way : (b : Bool)
-        → Same w.modulus (cond b (walked w d f z r).sum ((w.modulus - (walked w d f z r).sum) % w.modulus) + sum_by (λ c. crossing_value w d f z c r)
+        → Same w.modulus
+        (cond b (shadow_walked w d f z r).sum ((w.modulus - (shadow_walked w d f z r).sum) % w.modulus) + sum_by (λ c. shadow_crossing_value w d f z c r)
         (filter (λ c. not (cond b (not (is_up d c)) (is_up d c))) (passed d r)))
-        (sum_by (λ c. crossing_value w d f z c r) (filter (λ c. cond b (not (is_up d c)) (is_up d c)) (passed d r)))
+        (sum_by (λ c. shadow_crossing_value w d f z c r) (filter (λ c. cond b (not (is_up d c)) (is_up d c)) (passed d r)))
     by_way true =
-        subst (λ (l : List ℕ). Same w.modulus ((walked w d f z r).sum + sum_by (λ c. crossing_value w d f z c r) l) (downs w d f z r (passed d r)))
+        subst
+        (λ (l : List ℕ). Same w.modulus ((shadow_walked w d f z r).sum + sum_by (λ c. shadow_crossing_value w d f z c r) l) (downs w d f z r (passed d r)))
         (same_filter (is_up d) (λ c. not (not (is_up d c))) (λ c. not_not (is_up d c)) (passed d r))
         (whole_row w cocycle d grid f has z lz r lt known)
     by_way false =
-        same_by_two w.modulus ((w.modulus - (walked w d f z r).sum) % w.modulus + (walked w d f z r).sum) 0 (downs w d f z r (passed d r))
-        ((walked w d f z r).sum + ups w d f z r (passed d r))
-        ((w.modulus - (walked w d f z r).sum) % w.modulus + downs w d f z r (passed d r)) (ups w d f z r (passed d r))
-        (same_minus w.modulus (walked w d f z r).sum some (let below = walked_below w some d f z r in omega (arith, below)))
-        (same_turned w.modulus ((walked w d f z r).sum + ups w d f z r (passed d r)) (downs w d f z r (passed d r))
+        same_by_two w.modulus ((w.modulus - (shadow_walked w d f z r).sum) % w.modulus + (shadow_walked w d f z r).sum) 0 (downs w d f z r (passed d r))
+        ((shadow_walked w d f z r).sum + ups w d f z r (passed d r))
+        ((w.modulus - (shadow_walked w d f z r).sum) % w.modulus + downs w d f z r (passed d r)) (ups w d f z r (passed d r))
+        (same_minus w.modulus (shadow_walked w d f z r).sum some (let below = walked_below w some d f z r in omega (arith, below)))
+        (same_turned w.modulus ((shadow_walked w d f z r).sum + ups w d f z r (passed d r)) (downs w d f z r (passed d r))
         (whole_row w cocycle d grid f has z lz r lt known))
         (omega arith)
 
@@ -284,27 +289,27 @@ same_difference k a b some =
 
 -- the two weights
 pub crossings_are_rows : (w : ShadowCochain) → IsShadowCocycle w → (d : Diagram) → IsGrid d → (f : List ℕ) → HasColours w.quandle d f → (z : ℕ)
-    → z < w.quandle.order → shadow_weight w d f z ≡ weight_by_rows w d f z
+    → z < w.quandle.order → shadow_weight w d f z ≡ shadow_weight_by_rows w d f z
 crossings_are_rows w cocycle d grid f has z lz =
     let some : 0 < w.modulus = omega (arith, cocycle.least) in
     let n : ℕ = size d in
     let plus : ℕ → ℕ = λ r. positives w d f z r in
     let minus : ℕ → ℕ = λ r. negatives w d f z r in
-    let rows = total_same w.modulus (λ r. row_weight w d f z r + negatives w d f z r) (positives w d f z) (size d)
+    let rows = total_same w.modulus (λ r. shadow_row_weight w d f z r + negatives w d f z r) (positives w d f z) (size d)
     (λ r lt. row_signs w cocycle d grid f has z lz r lt (are_ends d grid r lt)) in
-    let one = sum_total (row_weight w d f z) (size d) in
+    let one = sum_total (shadow_row_weight w d f z) (size d) in
     let two = sum_total (positives w d f z) (size d) in
     let three = sum_total (negatives w d f z) (size d) in
-    equal_below w.modulus (shadow_weight w d f z) (weight_by_rows w d f z)
+    equal_below w.modulus (shadow_weight w d f z) (shadow_weight_by_rows w d f z)
     (same_by_three w.modulus
-    (shadow_weight w d f z + negative_sum w d f z) (positive_sum w d f z)
-    (total (positives w d f z) (size d)) (total (λ r. row_weight w d f z r + negatives w d f z r) (size d))
-    (sum_by (row_weight w d f z) (range_with_len 0 (size d))) (weight_by_rows w d f z)
-    (shadow_weight w d f z) (weight_by_rows w d f z)
-    (same_difference w.modulus (positive_sum w d f z) (negative_sum w d f z) some)
-    (same_turned w.modulus (total (λ r. row_weight w d f z r + negatives w d f z r) (size d)) (total (positives w d f z) (size d)) rows)
-    (same_turned w.modulus (weight_by_rows w d f z) (sum_by (row_weight w d f z) (range_with_len 0 (size d)))
-    (same_mod w.modulus (sum_by (row_weight w d f z) (range_with_len 0 (size d))) some))
-    (omega (arith, one, two, three, total_plus (λ r. row_weight w d f z r) (negatives w d f z) (size d))))
-    (mod_below w.modulus (positive_sum w d f z + (w.modulus - negative_sum w d f z % w.modulus)) some)
-    (mod_below w.modulus (sum_by (row_weight w d f z) (range_with_len 0 (size d))) some)
+    (shadow_weight w d f z + shadow_negative_sum w d f z) (shadow_positive_sum w d f z)
+    (total (positives w d f z) (size d)) (total (λ r. shadow_row_weight w d f z r + negatives w d f z r) (size d))
+    (sum_by (shadow_row_weight w d f z) (range_with_len 0 (size d))) (shadow_weight_by_rows w d f z)
+    (shadow_weight w d f z) (shadow_weight_by_rows w d f z)
+    (same_difference w.modulus (shadow_positive_sum w d f z) (shadow_negative_sum w d f z) some)
+    (same_turned w.modulus (total (λ r. shadow_row_weight w d f z r + negatives w d f z r) (size d)) (total (positives w d f z) (size d)) rows)
+    (same_turned w.modulus (shadow_weight_by_rows w d f z) (sum_by (shadow_row_weight w d f z) (range_with_len 0 (size d)))
+    (same_mod w.modulus (sum_by (shadow_row_weight w d f z) (range_with_len 0 (size d))) some))
+    (omega (arith, one, two, three, total_plus (λ r. shadow_row_weight w d f z r) (negatives w d f z) (size d))))
+    (mod_below w.modulus (shadow_positive_sum w d f z + (w.modulus - shadow_negative_sum w d f z % w.modulus)) some)
+    (mod_below w.modulus (sum_by (shadow_row_weight w d f z) (range_with_len 0 (size d))) some)

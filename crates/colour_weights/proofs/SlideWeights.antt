@@ -20,7 +20,7 @@ use Rattle.colour_laws.proofs.ColumnSlides.{kept_colours, traded_of}
 use Rattle.colour_laws.proofs.RowSlides.{same_both}
 use Rattle.colour_laws.proofs.SlideSteps.{sharing, both}
 use Rattle.cocycle_core.specs.ShadowCocycle.{ShadowCochain, IsShadowCocycle}
-use Rattle.colour_weights.specs.ShadowWalkSum.{weight_by_rows}
+use Rattle.colour_weights.specs.ShadowWalkSum.{shadow_weight_by_rows}
 use Rattle.colour_weights.proofs.RowSums.{HaveSameWeight}
 use Rattle.colour_weights.proofs.SlidColumns.{columns_slid_weight}
 use Rattle.colour_weights.proofs.TradedRows.{inner_of_both}
@@ -33,7 +33,7 @@ use Rattle.colour_weights.proofs.ExchangeWeights.{by_traded_rows}
 -- a slide of columns
 pub slide_of_columns : (w : ShadowCochain) → IsShadowCocycle w → (z : ℕ) → z < w.quandle.order → (d e : Diagram) (c : ℕ) → Step d (SlideColumns c) e
     → (f : List ℕ) → IsColouring w.quandle d f
-    → weight_by_rows w e (carried w.quandle d (SlideColumns c) f) z ≡ weight_by_rows w d f z
+    → shadow_weight_by_rows w e (carried w.quandle d (SlideColumns c) f) z ≡ shadow_weight_by_rows w d f z
 slide_of_columns w cocycle z lz d e c step f colouring =
     let q = cocycle.quandle in
     let grid = step.before in
@@ -60,7 +60,7 @@ slide_of_columns w cocycle z lz d e c step f colouring =
 -- a slide of rows
 pub slide_of_rows : (w : ShadowCochain) → IsShadowCocycle w → (z : ℕ) → z < w.quandle.order → (d e : Diagram) (r : ℕ) → Step d (SlideRows r) e → (f : List ℕ)
     → IsColouring w.quandle d f
-    → weight_by_rows w e (carried w.quandle d (SlideRows r) f) z ≡ weight_by_rows w d f z
+    → shadow_weight_by_rows w e (carried w.quandle d (SlideRows r) f) z ≡ shadow_weight_by_rows w d f z
 slide_of_rows w cocycle z lz d e r step f colouring =
     let q = cocycle.quandle in
     let grid = step.before in

@@ -5,8 +5,8 @@ use Rattle.cocycle_core.specs.Cocycle.{Cochain}
 use Rattle.cocycle_core.specs.ShadowCocycle.{ShadowCochain}
 
 -- θ(w, x, y) = φ(x, y): the table once for each colour of a region
-abbrev pub lifted : Cochain → ShadowCochain
-lifted w = record {
+abbrev pub lifted_cochain : Cochain → ShadowCochain
+lifted_cochain w = record {
   quandle = w.quandle;
   modulus = w.modulus;
   entries =

@@ -6,20 +6,20 @@ use Rattle.grid_core.specs.Diagram.{Diagram, size}
 use Rattle.grid_core.specs.Parts.{covers, ends, is_up, is_rightward}
 use Rattle.quandle_core.specs.Quandle.{Table, back}
 use Rattle.colour_rows.specs.Walk.{under, passed, passed_rightward}
-use Rattle.colour_weights.specs.declared.shadow_walker.Walker.{Walker}
-use Rattle.cocycle_core.specs.ShadowCocycle.{ShadowCochain, value}
+use Rattle.colour_weights.specs.declared.shadow_walker.ShadowWalker.{ShadowWalker}
+use Rattle.cocycle_core.specs.ShadowCocycle.{ShadowCochain, shadow_value}
 
 -- what a walk at colour x, with a region of colour w on its right-hand side, gains under a column of colour y:
 -- θ(w, x, y) where it is down; where it is up, θ(w ◁ y, x ◁ y, y) is taken away
-abbrev pub gain : ShadowCochain → Bool → ℕ → ℕ → ℕ → ℕ
-gain t up w x y = if up then (t.modulus - value t (back t.quandle w y) (back t.quandle x y) y) % t.modulus else value t w x y
+abbrev pub shadow_gain : ShadowCochain → Bool → ℕ → ℕ → ℕ → ℕ
+shadow_gain t up w x y = if up then (t.modulus - shadow_value t (back t.quandle w y) (back t.quandle x y) y) % t.modulus else shadow_value t w x y
 
 -- a walker under a column of colour y
-abbrev pub stepped : ShadowCochain → Bool → Walker → ℕ → Walker
-stepped t up at y = record {
+abbrev pub shadow_stepped : ShadowCochain → Bool → ShadowWalker → ℕ → ShadowWalker
+shadow_stepped t up at y = record {
   colour = passed_rightward t.quandle up at.colour y;
   region = passed_rightward t.quandle up at.region y;
-  sum = (at.sum + gain t up at.region at.colour y) % t.modulus;
+  sum = (at.sum + shadow_gain t up at.region at.colour y) % t.modulus;
 }
 
 -- the region left of the left end of row r
@@ -33,15 +33,15 @@ region_start t d colours outer r =
     else region_left t d colours outer r
 
 -- the walker that sets out at the left end of row r, and has come to its right end
-abbrev pub walked : ShadowCochain → Diagram → List ℕ → ℕ → ℕ → Walker
-walked t d colours outer r =
-    fold (λ (at : Walker) c. stepped t (is_up d c) at (slice_index colours c))
+abbrev pub shadow_walked : ShadowCochain → Diagram → List ℕ → ℕ → ℕ → ShadowWalker
+shadow_walked t d colours outer r =
+    fold (λ (at : ShadowWalker) c. shadow_stepped t (is_up d c) at (slice_index colours c))
     (record { colour = slice_index colours (ends d r).low; region = region_start t.quandle d colours outer r; sum = 0 }) (passed d r)
 
 -- the weight of row r
-abbrev pub row_weight : ShadowCochain → Diagram → List ℕ → ℕ → ℕ → ℕ
-row_weight t d colours outer r =
-    if is_rightward d r then (walked t d colours outer r).sum else (t.modulus - (walked t d colours outer r).sum) % t.modulus
+abbrev pub shadow_row_weight : ShadowCochain → Diagram → List ℕ → ℕ → ℕ → ℕ
+shadow_row_weight t d colours outer r =
+    if is_rightward d r then (shadow_walked t d colours outer r).sum else (t.modulus - (shadow_walked t d colours outer r).sum) % t.modulus
 
-abbrev pub weight_by_rows : ShadowCochain → Diagram → List ℕ → ℕ → ℕ
-weight_by_rows t d colours outer = sum_by (row_weight t d colours outer) (range_with_len 0 (size d)) % t.modulus
+abbrev pub shadow_weight_by_rows : ShadowCochain → Diagram → List ℕ → ℕ → ℕ
+shadow_weight_by_rows t d colours outer = sum_by (shadow_row_weight t d colours outer) (range_with_len 0 (size d)) % t.modulus

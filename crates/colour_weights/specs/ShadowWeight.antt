@@ -6,7 +6,7 @@ use Rattle.grid_core.specs.Crossing.{is_positive}
 use Rattle.grid_core.specs.Parts.{is_up}
 use Rattle.quandle_core.specs.Quandle.{Table}
 use Rattle.colour_rows.specs.Walk.{under, passed, walk_to}
-use Rattle.cocycle_core.specs.ShadowCocycle.{ShadowCochain, value}
+use Rattle.cocycle_core.specs.ShadowCocycle.{ShadowCochain, shadow_value}
 use Rattle.colour_weights.specs.Region.{region_beside}
 
 -- the colour of row r's strand on the right-hand side of column c, which passes over it: behind an up column, before a down one
@@ -16,22 +16,22 @@ colour_beside t d colours c r =
 
 -- θ(w, x, y) of the crossing of column c over row r: y is the colour of the column, x that of the strand under it on the column's right-hand side,
 -- and w that of the region on the right-hand side of both
-abbrev pub crossing_value : ShadowCochain → Diagram → List ℕ → ℕ → ℕ → ℕ → ℕ
-crossing_value t d colours outer c r =
-    value t (region_beside t.quandle d colours outer c r) (colour_beside t.quandle d colours c r) (slice_index colours c)
+abbrev pub shadow_crossing_value : ShadowCochain → Diagram → List ℕ → ℕ → ℕ → ℕ → ℕ
+shadow_crossing_value t d colours outer c r =
+    shadow_value t (region_beside t.quandle d colours outer c r) (colour_beside t.quandle d colours c r) (slice_index colours c)
 
 -- the sum over the positive crossings, and over the negative ones
-abbrev pub positive_sum : ShadowCochain → Diagram → List ℕ → ℕ → ℕ
-positive_sum t d colours outer =
-    sum_by (λ r. sum_by (λ c. crossing_value t d colours outer c r) (filter (λ c. is_positive d c r) (passed d r))) (range_with_len 0 (size d))
+abbrev pub shadow_positive_sum : ShadowCochain → Diagram → List ℕ → ℕ → ℕ
+shadow_positive_sum t d colours outer =
+    sum_by (λ r. sum_by (λ c. shadow_crossing_value t d colours outer c r) (filter (λ c. is_positive d c r) (passed d r))) (range_with_len 0 (size d))
 
-abbrev pub negative_sum : ShadowCochain → Diagram → List ℕ → ℕ → ℕ
-negative_sum t d colours outer =
-    sum_by (λ r. sum_by (λ c. crossing_value t d colours outer c r) (filter (λ c. not (is_positive d c r)) (passed d r))) (range_with_len 0 (size d))
+abbrev pub shadow_negative_sum : ShadowCochain → Diagram → List ℕ → ℕ → ℕ
+shadow_negative_sum t d colours outer =
+    sum_by (λ r. sum_by (λ c. shadow_crossing_value t d colours outer c r) (filter (λ c. not (is_positive d c r)) (passed d r))) (range_with_len 0 (size d))
 
 -- a - b mod k
 abbrev pub difference : ℕ → ℕ → ℕ → ℕ
 difference k a b = (a + (k - b % k)) % k
 
 abbrev pub shadow_weight : ShadowCochain → Diagram → List ℕ → ℕ → ℕ
-shadow_weight t d colours outer = difference t.modulus (positive_sum t d colours outer) (negative_sum t d colours outer)
+shadow_weight t d colours outer = difference t.modulus (shadow_positive_sum t d colours outer) (shadow_negative_sum t d colours outer)

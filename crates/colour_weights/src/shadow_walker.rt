@@ -5,7 +5,7 @@ ghost use Rattle.grid_core.specs.Parts.{ends, covers, is_up, is_rightward};
 ghost use Rattle.quandle_core.specs.Quandle.{back};
 ghost use Rattle.colour_rows.specs.Walk.{passed_rightward};
 ghost use Rattle.colour_rows.specs.Colouring.{AreColours};
-ghost use Rattle.colour_weights.specs.ShadowWalkSum.{gain, stepped, region_left, region_start, walked, row_weight};
+ghost use Rattle.colour_weights.specs.ShadowWalkSum.{shadow_gain, shadow_stepped, region_left, region_start, shadow_walked, shadow_row_weight};
 
 use crate::sums::{minus, plus};
 use cocycle_core::ShadowCocycle;
@@ -14,7 +14,7 @@ use grid_core::Grid;
 
 /// Where the walk of a row stands: the colour of the strand, that of the region on its right-hand side, and the weighted sum so far.
 #[derive(Clone, Copy)]
-pub struct Walker {
+pub struct ShadowWalker {
     pub colour: u8,
     pub region: u8,
     pub sum: u8,
@@ -31,7 +31,7 @@ pub(crate) fn row_weight(
     requires row { row < size grid.now }
     requires colours { AreColours (size grid.now) cocycle.now.quandle.order colours.now }
     requires outer { outer < cocycle.now.quandle.order }
-    ensures weight { result ≡ row_weight cocycle.now grid.now colours.now outer row }
+    ensures weight { result ≡ shadow_row_weight cocycle.now grid.now colours.now outer row }
     ensures below { result < cocycle.now.modulus }
 {
     let sum = walked(grid, cocycle, colours, outer, row).sum;
@@ -95,7 +95,7 @@ fn region_start(grid: &Grid, cocycle: &ShadowCocycle, colours: &[u8], outer: u8,
 }
 
 /// The walker at the left end of a row.
-fn set_out(grid: &Grid, cocycle: &ShadowCocycle, colours: &[u8], outer: u8, row: u8) -> Walker
+fn set_out(grid: &Grid, cocycle: &ShadowCocycle, colours: &[u8], outer: u8, row: u8) -> ShadowWalker
     requires row { row < size grid.now }
     requires colours { AreColours (size grid.now) cocycle.now.quandle.order colours.now }
     requires outer { outer < cocycle.now.quandle.order }
@@ -111,7 +111,7 @@ fn set_out(grid: &Grid, cocycle: &ShadowCocycle, colours: &[u8], outer: u8, row:
     let _order = cocycle.quandle().order();
     let (left, _right) = grid.ends(row);
     let region = region_start(grid, cocycle, colours, outer, row);
-    Walker {
+    ShadowWalker {
         colour: colours[left as usize],
         region,
         sum: 0,
@@ -119,11 +119,11 @@ fn set_out(grid: &Grid, cocycle: &ShadowCocycle, colours: &[u8], outer: u8, row:
 }
 
 /// The walk of a row from its left end to its right end.
-fn walked(grid: &Grid, cocycle: &ShadowCocycle, colours: &[u8], outer: u8, row: u8) -> Walker
+fn walked(grid: &Grid, cocycle: &ShadowCocycle, colours: &[u8], outer: u8, row: u8) -> ShadowWalker
     requires row { row < size grid.now }
     requires colours { AreColours (size grid.now) cocycle.now.quandle.order colours.now }
     requires outer { outer < cocycle.now.quandle.order }
-    ensures walked { result ≡ walked cocycle.now grid.now colours.now outer row }
+    ensures walked { result ≡ shadow_walked cocycle.now grid.now colours.now outer row }
     ensures below { result.sum < cocycle.now.modulus }
 {
     let _size = grid.size();
@@ -138,11 +138,18 @@ fn walked(grid: &Grid, cocycle: &ShadowCocycle, colours: &[u8], outer: u8, row: 
 }
 
 /// A walker of a row behind a column of colour y: it passes under the column where this covers the row.
-fn past(grid: &Grid, cocycle: &ShadowCocycle, at: Walker, row: u8, column: u8, y: u8) -> Walker
+fn past(
+    grid: &Grid,
+    cocycle: &ShadowCocycle,
+    at: ShadowWalker,
+    row: u8,
+    column: u8,
+    y: u8,
+) -> ShadowWalker
     requires column { column < size grid.now }
     requires colours { (at.colour < cocycle.now.quandle.order) × (at.region < cocycle.now.quandle.order) × (y < cocycle.now.quandle.order) }
     requires sum { at.sum < cocycle.now.modulus }
-    ensures past { result ≡ (if covers grid.now column row then stepped cocycle.now (is_up grid.now column) at y else at) }
+    ensures past { result ≡ (if covers grid.now column row then shadow_stepped cocycle.now (is_up grid.now column) at y else at) }
     ensures below { (result.colour < cocycle.now.quandle.order) × (result.region < cocycle.now.quandle.order) × (result.sum < cocycle.now.modulus) }
 {
     if grid.covers(column, row) {
@@ -153,15 +160,15 @@ fn past(grid: &Grid, cocycle: &ShadowCocycle, at: Walker, row: u8, column: u8, y
 }
 
 /// A walker under a column of colour y.
-fn stepped(cocycle: &ShadowCocycle, up: bool, at: Walker, y: u8) -> Walker
+fn stepped(cocycle: &ShadowCocycle, up: bool, at: ShadowWalker, y: u8) -> ShadowWalker
     requires colours { (at.colour < cocycle.now.quandle.order) × (at.region < cocycle.now.quandle.order) × (y < cocycle.now.quandle.order) }
     requires sum { at.sum < cocycle.now.modulus }
-    ensures stepped { result ≡ stepped cocycle.now up at y }
+    ensures stepped { result ≡ shadow_stepped cocycle.now up at y }
     ensures below { (result.colour < cocycle.now.quandle.order) × (result.region < cocycle.now.quandle.order) × (result.sum < cocycle.now.modulus) }
 {
     let _modulus = cocycle.modulus();
     let gained = gain(cocycle, up, at.region, at.colour, y);
-    Walker {
+    ShadowWalker {
         colour: passed_rightward(cocycle.quandle(), up, at.colour, y),
         region: passed_rightward(cocycle.quandle(), up, at.region, y),
         sum: plus(cocycle.modulus(), at.sum, gained),
@@ -171,7 +178,7 @@ fn stepped(cocycle: &ShadowCocycle, up: bool, at: Walker, y: u8) -> Walker
 /// What a walk at colour x, with a region of colour w on its right-hand side, gains under a column of colour y.
 fn gain(cocycle: &ShadowCocycle, up: bool, w: u8, x: u8, y: u8) -> u8
     requires { (w < cocycle.now.quandle.order) × (x < cocycle.now.quandle.order) × (y < cocycle.now.quandle.order) }
-    ensures gain { result ≡ gain cocycle.now up w x y }
+    ensures gain { result ≡ shadow_gain cocycle.now up w x y }
     ensures below { result < cocycle.now.modulus }
 {
     let _modulus = cocycle.modulus();

@@ -9,7 +9,7 @@ ghost use Rattle.colour_list.specs.declared.limits.ListFault.TheVariants as faul
 ghost use Rattle.colour_list.specs.Fits.{fits};
 ghost use Rattle.colour_list.specs.Listing.{colourings, lists_of};
 ghost use Rattle.colour_weights.specs.ShadowWeight.{shadow_weight};
-ghost use Rattle.colour_weights.specs.ShadowWalkSum.{weight_by_rows};
+ghost use Rattle.colour_weights.specs.ShadowWalkSum.{shadow_weight_by_rows};
 ghost use Rattle.colour_weights.specs.ShadowWeights.{shadow_weights};
 
 use crate::counts::{count_one, zeros};
@@ -40,7 +40,7 @@ pub fn shadow_weight(grid: &Grid, cocycle: &ShadowCocycle, colours: &Colouring, 
 fn by_rows(grid: &Grid, cocycle: &ShadowCocycle, colours: &Colouring, outer: u8) -> u8
     requires colouring { IsColouring cocycle.now.quandle grid.now colours.now.items }
     requires outer { outer < cocycle.now.quandle.order }
-    ensures weight { result ≡ weight_by_rows cocycle.now grid.now colours.now.items outer }
+    ensures weight { result ≡ shadow_weight_by_rows cocycle.now grid.now colours.now.items outer }
     ensures below { result < cocycle.now.modulus }
 {
     let modulus = cocycle.modulus();

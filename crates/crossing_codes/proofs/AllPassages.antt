@@ -8,7 +8,7 @@ use Rattle.grid_core.specs.Diagram.{Diagram, IsGrid, size}
 use Rattle.grid_core.specs.Parts.{column_of}
 use Rattle.grid_core.proofs.Marks.{row_below, row_once, column_mark}
 use Rattle.crossing_codes.specs.declared.passages.Passage.{Passage}
-use Rattle.crossing_codes.specs.Components.{component, starts}
+use Rattle.crossing_codes.specs.Components.{component, component_starts}
 use Rattle.crossing_codes.specs.Passages.{Crossed, crossings, through, along, passages_from, passages}
 use Rattle.crossing_codes.specs.Edges.{is_passage, place}
 use Rattle.crossing_codes.proofs.Members.{Has, Apart, has_left, has_right, has_either, has_map, of_map, has_flat_map, of_flat_map}
@@ -38,7 +38,7 @@ round_apart d grid s lt =
 
 pub passages_apart : (d : Diagram) → IsGrid d → Apart (passages d)
 passages_apart d grid =
-    apart_flat_map (passages_from d) (starts d) (λ s h. round_apart d grid s (start_below d s h))
+    apart_flat_map (passages_from d) (component_starts d) (λ s h. round_apart d grid s (start_below d s h))
     (λ s t p hs ht at_s at_t.
     let a = of_flat_map (along d) (component d s) p at_s in
     let b = of_flat_map (along d) (component d t) p at_t in
@@ -52,7 +52,7 @@ passages_apart d grid =
 pub has_passage : (d : Diagram) → IsGrid d → (c : ℕ) (p : Passage) → c < size d → Has (along d c) p → Has (passages d) p
 has_passage d grid c p lt h =
     let s = start_of d grid c lt in
-    has_flat_map (passages_from d) (starts d) s.0 p s.1 (has_flat_map (along d) (component d s.0) c p s.2 h)
+    has_flat_map (passages_from d) (component_starts d) s.0 p s.1 (has_flat_map (along d) (component d s.0) c p s.2 h)
 
 pub over_passes : (d : Diagram) → IsGrid d → (c r : ℕ) → r < size d → IsCrossing d c r → Has (passages d) (through true (cell c r))
 over_passes d grid c r lt x = has_passage d grid c (through true (cell c r)) (column_inside d grid c r lt x) (has_over d c r x)
@@ -69,7 +69,7 @@ passes d grid false c r lt x = under_passes d grid c r lt x
 -- and each passage is at a crossing
 pub passage_at : (d : Diagram) → IsGrid d → (p : Passage) → Has (passages d) p → (p.row < size d) × (p.column < size d) × IsCrossing d p.column p.row
 passage_at d grid p h =
-    let a = of_flat_map (passages_from d) (starts d) p h in
+    let a = of_flat_map (passages_from d) (component_starts d) p h in
     let b = of_flat_map (along d) (component d a.0) p a.2 in
     let below = member_below d grid a.0 b.0 (start_below d a.0 a.1) b.1 in
     elim (which_along d b.0 p b.2) [

@@ -16,7 +16,7 @@ use Rattle.grid_core.specs.Crossing.{crosses, Direction, unit, row_direction, tu
 use Rattle.quandle_core.specs.Quandle.{Table, IsQuandle}
 use Rattle.colour_rows.specs.Colouring.{IsColouring}
 use Rattle.crossing_codes.specs.declared.passages.Passage.{Passage}
-use Rattle.crossing_codes.specs.Components.{component, starts}
+use Rattle.crossing_codes.specs.Components.{component, component_starts}
 use Rattle.crossing_codes.specs.Passages.{Crossed, crossings, through, passages, passages_from}
 use Rattle.crossing_codes.specs.Edges.{leads_to, all_lead_to, edges_after, edges_before, place, edge_from, edge_to}
 use Rattle.crossing_codes.specs.Printed.{passage_token}
@@ -49,11 +49,12 @@ where_crossings d at = (
       contained (crossings d) at (has_crossing d at.column at.row h.0 (record { covered = both.0; across = both.1 })),
 )
 
-pub columns_shared : (d : Diagram) → IsGrid d → IsPermutation (range_with_len 0 (size d)) (flat_map (component d) (starts d))
+pub columns_shared : (d : Diagram) → IsGrid d → IsPermutation (range_with_len 0 (size d)) (flat_map (component d) (component_starts d))
 columns_shared d grid =
-    same_members (range_with_len 0 (size d)) (flat_map (component d) (starts d)) (apart_range 0 (size d)) (order_apart d grid)
-    (λ c h. let m = of_range 0 (size d) c h in let s = start_of d grid c (omega arith) in has_flat_map (component d) (starts d) s.0 c s.1 s.2)
-    (λ c h. let s = of_flat_map (component d) (starts d) c h in let b = member_below d grid s.0 c (start_below d s.0 s.1) s.2 in has_range 0 (size d) c
+    same_members (range_with_len 0 (size d)) (flat_map (component d) (component_starts d)) (apart_range 0 (size d)) (order_apart d grid)
+    (λ c h. let m = of_range 0 (size d) c h in let s = start_of d grid c (omega arith) in has_flat_map (component d) (component_starts d) s.0 c s.1 s.2)
+    (λ c h. let s = of_flat_map (component d) (component_starts d) c h in let b = member_below d grid s.0 c (start_below d s.0 s.1) s.2 in has_range 0
+    (size d) c
     (omega arith) (omega arith))
 
 pub count_twice : (d : Diagram) → IsGrid d → length (passages d) ≡ 2 * length (crossings d)
@@ -125,10 +126,10 @@ all_permute g b (s ∷ ss) =
 pub edges_each : (d : Diagram) → IsPermutation (range_with_len 1 (length (passages d))) (edges_after d)
 edges_each d =
     let zero_one : 0 + 1 ≡ 1 = omega arith in
-    subst (λ (i : ℕ). IsPermutation (range_with_len i (length (passages d))) (edges_after d)) zero_one (all_permute (passages_from d) 0 (starts d))
+    subst (λ (i : ℕ). IsPermutation (range_with_len i (length (passages d))) (edges_after d)) zero_one (all_permute (passages_from d) 0 (component_starts d))
 
 -- the edges of one component
-pub edges_of_round : (d : Diagram) → IsGrid d → (s : ℕ) → Has (starts d) s
+pub edges_of_round : (d : Diagram) → IsGrid d → (s : ℕ) → Has (component_starts d) s
     → (map (edge_from d) (passages_from d s) ≡ range_with_len (edges_before d s + 1) (length (passages_from d s))) × (map (edge_to d) (passages_from d s) ≡ leads_to (edges_before d s) (length (passages_from d s)))
 edges_of_round d grid s h =
     let z : Passage = record { over = true; column = 0; row = 0 } in

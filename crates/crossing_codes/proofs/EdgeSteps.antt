@@ -11,7 +11,7 @@ use Rattle.grid_core.specs.Diagram.{Diagram, IsGrid, size}
 use Rattle.quandle_core.specs.Quandle.{Table, IsQuandle}
 use Rattle.colour_rows.specs.Colouring.{IsColouring}
 use Rattle.crossing_codes.specs.declared.passages.Passage.{Passage}
-use Rattle.crossing_codes.specs.Components.{starts}
+use Rattle.crossing_codes.specs.Components.{component_starts}
 use Rattle.crossing_codes.specs.Passages.{passages_from}
 use Rattle.crossing_codes.specs.EdgeColouring.{arriving, edge_colours}
 use Rattle.crossing_codes.specs.OnTheWay.{LiesIn, passing, on_the_way}
@@ -31,12 +31,12 @@ pub round_arrives : (t : Table) (d : Diagram) (f : List ℕ) → IsGrid d → Is
 round_arrives t d f grid q colouring s lt = way_arrives t d f (get_or f s 0) (passages_from d s) (round_follows t d f grid q colouring s lt).scans
 
 -- the passages of a component lie in the diagram
-pub round_inside : (d : Diagram) → IsGrid d → (ss : List ℕ) (i : ℕ) → ss ≡ starts d → i < length ss → All (LiesIn d) (passages_from d (get_or ss i 0))
+pub round_inside : (d : Diagram) → IsGrid d → (ss : List ℕ) (i : ℕ) → ss ≡ component_starts d → i < length ss → All (LiesIn d) (passages_from d (get_or ss i 0))
 round_inside d grid ss i are lt k z less =
     let s = get_or ss i 0 in
-    let start : Has (starts d) s = subst (λ (zs : List ℕ). Has zs s) are (has_at ss i 0 lt) in
+    let start : Has (component_starts d) s = subst (λ (zs : List ℕ). Has zs s) are (has_at ss i 0 lt) in
     let p = get_or (passages_from d s) k z in
-    let at = passage_at d grid p (has_flat_map (passages_from d) (starts d) s p start (has_at (passages_from d s) k z less)) in
+    let at = passage_at d grid p (has_flat_map (passages_from d) (component_starts d) s p start (has_at (passages_from d s) k z less)) in
     (at.1, at.0)
 
 -- the colours of the edges, and of the loops, of the components so far
@@ -75,10 +75,10 @@ no_loop_further d f ss i found lt some so_far =
     so_far ∙ sym (loops_by d f ss i false lt (ne_eqb (length (passages_from d (get_or ss i 0))) 0 some) ∙ append-nil (loops_so_far d f ss i))
 
 -- all of them
-pub edges_done : (t : Table) (d : Diagram) (f ss : List ℕ) (i : ℕ) (edges found_loops : List ℕ) → ss ≡ starts d → length ss ≤ i
+pub edges_done : (t : Table) (d : Diagram) (f ss : List ℕ) (i : ℕ) (edges found_loops : List ℕ) → ss ≡ component_starts d → length ss ≤ i
     → edges ≡ edges_so_far t d f ss i → found_loops ≡ loops_so_far d f ss i → edges ++ found_loops ≡ edge_colours t d f
 edges_done t d f ss i edges found_loops are most so_far loops_too =
-    let whole : take i ss ≡ starts d = take_all i ss most ∙ are in
+    let whole : take i ss ≡ component_starts d = take_all i ss most ∙ are in
     ap₂ (λ (xs ys : List ℕ). xs ++ ys)
-    (so_far ∙ (ap (flat_map (λ s. map (arriving t d f) (passages_from d s))) whole ∙ sym (map_joined (arriving t d f) (passages_from d) (starts d))))
+    (so_far ∙ (ap (flat_map (λ s. map (arriving t d f) (passages_from d s))) whole ∙ sym (map_joined (arriving t d f) (passages_from d) (component_starts d))))
     (loops_too ∙ ap (λ (zs : List ℕ). map (slice_index f) (filter (λ s. length (passages_from d s) == 0) zs)) whole)

@@ -8,21 +8,21 @@ use Rattle.std.proofs.lemmas.List.Concat.{flat_map-append}
 use Rattle.std.proofs.lemmas.List.Elements.{filter-append}
 use Rattle.grid_core.specs.Diagram.{Diagram, IsGrid}
 use Rattle.crossing_codes.specs.declared.passages.Passage.{Passage}
-use Rattle.crossing_codes.specs.Components.{starts}
+use Rattle.crossing_codes.specs.Components.{component_starts}
 use Rattle.crossing_codes.specs.Passages.{passages_from, crossings}
 use Rattle.crossing_codes.specs.Printed.{gauss_line, gauss_text}
-use Rattle.crossing_codes.specs.Layout.{IsNumbered, HasNumber}
+use Rattle.crossing_codes.specs.Layout.{IsNumbered, HasCrossingNumber}
 use Rattle.crossing_codes.proofs.Members.{Has, has_at, has_flat_map}
 use Rattle.crossing_codes.proofs.NumberSteps.{passage_numbered}
 
 -- a table of all crossings has those of a component
-pub round_numbered : (d : Diagram) → IsGrid d → (table ss : List ℕ) (i : ℕ) → IsNumbered (crossings d) table → ss ≡ starts d → i < length ss
-    → All (HasNumber d table) (passages_from d (get_or ss i 0))
+pub round_numbered : (d : Diagram) → IsGrid d → (table ss : List ℕ) (i : ℕ) → IsNumbered (crossings d) table → ss ≡ component_starts d → i < length ss
+    → All (HasCrossingNumber d table) (passages_from d (get_or ss i 0))
 round_numbered d grid table ss i numbered are lt k z less =
     let s = get_or ss i 0 in
-    let start : Has (starts d) s = subst (λ (zs : List ℕ). Has zs s) are (has_at ss i 0 lt) in
+    let start : Has (component_starts d) s = subst (λ (zs : List ℕ). Has zs s) are (has_at ss i 0 lt) in
     let p = get_or (passages_from d s) k z in
-    passage_numbered d grid table numbered p (has_flat_map (passages_from d) (starts d) s p start (has_at (passages_from d s) k z less))
+    passage_numbered d grid table numbered p (has_flat_map (passages_from d) (component_starts d) s p start (has_at (passages_from d s) k z less))
 
 -- the lines of the components so far
 abbrev pub lines_so_far : Diagram → List ℕ → ℕ → List ℕ
@@ -52,6 +52,6 @@ pub no_line_further : (d : Diagram) (ss : List ℕ) (i : ℕ) (out : List ℕ) �
 no_line_further d ss i out lt empty so_far =
     so_far ∙ sym (lines_by d ss i false lt (ap not (eq-eqb (length (passages_from d (get_or ss i 0))) 0 empty)) ∙ append-nil (lines_so_far d ss i))
 
-pub lines_done : (d : Diagram) (ss : List ℕ) (i : ℕ) → ss ≡ starts d → length ss ≤ i → lines_so_far d ss i ≡ gauss_text d
+pub lines_done : (d : Diagram) (ss : List ℕ) (i : ℕ) → ss ≡ component_starts d → length ss ≤ i → lines_so_far d ss i ≡ gauss_text d
 lines_done d ss i are most =
     ap (λ (xs : List ℕ). flat_map (gauss_line d) (filter (λ ps. not (length ps == 0)) (map (passages_from d) xs))) (take_all i ss most ∙ are)

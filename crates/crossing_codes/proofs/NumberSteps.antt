@@ -14,7 +14,7 @@ use Rattle.colour_rows.proofs.Ranges.{range_longer}
 use Rattle.crossing_codes.specs.declared.passages.Passage.{Passage}
 use Rattle.crossing_codes.specs.Passages.{Crossed, crossings, passages}
 use Rattle.crossing_codes.specs.Printed.{crossing_number}
-use Rattle.crossing_codes.specs.Layout.{cell, crossings_below, IsNumbered, HasNumber}
+use Rattle.crossing_codes.specs.Layout.{cell_place, crossings_below, IsNumbered, HasCrossingNumber}
 use Rattle.crossing_codes.proofs.Members.{Has, has_at, has_either, place_in, one_place, of_flat_map, of_map, of_range}
 use Rattle.crossing_codes.proofs.Crossings.{crossing_in_row, column_inside, has_crossing, crossings_apart}
 use Rattle.crossing_codes.proofs.AllPassages.{passage_at}
@@ -25,7 +25,7 @@ crossed c r = record { column = c; row = r }
 
 -- all cells of the list lie before a place of the table
 abbrev pub LieBefore : ℕ → List Crossed → Type 0
-LieBefore n cells = (at : Crossed) → Has cells at → cell at.column at.row < n
+LieBefore n cells = (at : Crossed) → Has cells at → cell_place at.column at.row < n
 
 -- the crossings of the rows below, and of row r up to before column c
 abbrev pub up_to : Diagram → ℕ → ℕ → List Crossed
@@ -38,27 +38,27 @@ below_before d grid r most at h =
     let m = of_range 0 r a.0 a.1 in
     let inside = column_inside d grid k.0 a.0 (omega arith) (crossing_in_row d k.0 a.0 k.1) in
     let fits = grid.most in
-    subst (λ (z : Crossed). cell z.column z.row < r * MAX_SIZE) k.2 (omega arith)
+    subst (λ (z : Crossed). cell_place z.column z.row < r * MAX_SIZE) k.2 (omega arith)
 
 -- one cell more gets its number
-pub number_more : (cells : List Crossed) (table : List ℕ) (c r n k : ℕ) → k ≡ cell c r → n ≡ length cells + 1 → k < length table → LieBefore k cells
+pub number_more : (cells : List Crossed) (table : List ℕ) (c r n k : ℕ) → k ≡ cell_place c r → n ≡ length cells + 1 → k < length table → LieBefore k cells
     → IsNumbered cells table → IsNumbered (cells ++ crossed c r ∷ []) (set table k n)
 number_more cells table c r n k is number room before so_far i at lt stands = elim (cases_lt i (length cells)) [
   | inl less ↦
       let there : get_or cells i at ≡ at = sym (get_or_append_left cells (crossed c r ∷ []) at i less) ∙ stands in
       let lower = before at (subst (λ z. Has cells z) there (has_at cells i at less)) in
-      get_or-set_other table k (cell at.column at.row) n 0 (λ e. absurd (omega arith)) ∙ so_far i at less there
+      get_or-set_other table k (cell_place at.column at.row) n 0 (λ e. absurd (omega arith)) ∙ so_far i at less there
   | inr last ↦
       let e : i ≡ length cells = omega (arith, length-append cells (crossed c r ∷ [])) in
       let one : crossed c r ≡ at = sym (get_or_push cells (crossed c r) at i (sym e)) ∙ stands in
-      ap (λ (z : Crossed). get_or (set table k n) (cell z.column z.row) 0) (sym one)
+      ap (λ (z : Crossed). get_or (set table k n) (cell_place z.column z.row) 0) (sym one)
       ∙ (ap (λ (j : ℕ). get_or (set table k n) j 0) (sym is) ∙ (get_or-set_same table k n 0 room ∙ (number ∙ ap (λ (j : ℕ). j + 1) (sym e))))
 ]
 
-pub before_more : (cells : List Crossed) (c r n m : ℕ) → LieBefore n cells → n ≤ cell c r → cell c r < m → LieBefore m (cells ++ crossed c r ∷ [])
+pub before_more : (cells : List Crossed) (c r n m : ℕ) → LieBefore n cells → n ≤ cell_place c r → cell_place c r < m → LieBefore m (cells ++ crossed c r ∷ [])
 before_more cells c r n m before most less at h = elim (has_either cells (crossed c r ∷ []) at h) [
   | inl left ↦ let b = before at left in omega arith
-  | inr right ↦ elim right [ inl e ↦ subst (λ (z : Crossed). cell z.column z.row < m) e less | inr none ↦ absurd none ]
+  | inr right ↦ elim right [ inl e ↦ subst (λ (z : Crossed). cell_place z.column z.row < m) e less | inr none ↦ absurd none ]
 ]
 
 -- a row more
@@ -82,7 +82,8 @@ crossing_number_is d i c r z lt is =
     (λ within. ap test is ∙ and_from (c == c) (r == r) (eq-eqb c c refl) (eq-eqb r r refl)))
 
 -- so a table of all crossings has the number of each passage's
-pub passage_numbered : (d : Diagram) → IsGrid d → (table : List ℕ) → IsNumbered (crossings d) table → (p : Passage) → Has (passages d) p → HasNumber d table p
+pub passage_numbered : (d : Diagram) → IsGrid d → (table : List ℕ) → IsNumbered (crossings d) table → (p : Passage) → Has (passages d) p
+    → HasCrossingNumber d table p
 passage_numbered d grid table numbered p h =
     let at = passage_at d grid p h in
     let x = crossed p.column p.row in

@@ -8,7 +8,7 @@ use Rattle.std.proofs.lemmas.List.Concat.{flat_map-append}
 use Rattle.std.proofs.lemmas.List.FromFn.{get_or-map-range_with_len, length-map-range_with_len}
 use Rattle.grid_core.specs.Diagram.{Diagram, IsGrid}
 use Rattle.crossing_codes.specs.declared.passages.Passage.{Passage}
-use Rattle.crossing_codes.specs.Components.{starts}
+use Rattle.crossing_codes.specs.Components.{component_starts}
 use Rattle.crossing_codes.specs.Passages.{passages_from, passages}
 use Rattle.crossing_codes.specs.Edges.{leads_to, all_lead_to, edges_after, edges_before}
 use Rattle.crossing_codes.proofs.Members.{Has, has_at, of_flat_map, place_in, one_place, cut_at}
@@ -17,7 +17,7 @@ use Rattle.crossing_codes.proofs.AllPassages.{passages_apart}
 
 -- the passages of the component of start s are the n from place b on
 pub record IsPlaced (d : Diagram) (s b : ℕ) : Type 0 where
-  pub start : Has (starts d) s
+  pub start : Has (component_starts d) s
   pub before : edges_before d s ≡ b
   pub within : b + length (passages_from d s) ≤ length (passages d)
   pub passage : (k : ℕ) (z : Passage) → k < length (passages_from d s) → get_or (passages d) (b + k) z ≡ get_or (passages_from d s) k z
@@ -66,11 +66,11 @@ lead_split g b (x ∷ front) s behind =
     (map (λ y. length (g y)) behind)))
 
 pub length_after : (d : Diagram) → length (edges_after d) ≡ length (passages d)
-length_after d = lengths_before (passages_from d) 0 (starts d)
+length_after d = lengths_before (passages_from d) 0 (component_starts d)
 
-pub placed : (d : Diagram) (s : ℕ) → Has (starts d) s → (b : ℕ) × IsPlaced d s b
+pub placed : (d : Diagram) (s : ℕ) → Has (component_starts d) s → (b : ℕ) × IsPlaced d s b
 placed d s h =
-    let cut = cut_at (starts d) s h in
+    let cut = cut_at (component_starts d) s h in
     let front = cut.0 in
     let behind = cut.1 in
     let g = passages_from d in
@@ -112,7 +112,7 @@ pub record IsAmong (d : Diagram) (i : ℕ) : Type 0 where
 pub among : (d : Diagram) → IsGrid d → (i : ℕ) → i < length (passages d) → IsAmong d i
 among d grid i lt =
     let z : Passage = record { over = true; column = 0; row = 0 } in
-    let a = of_flat_map (passages_from d) (starts d) (get_or (passages d) i z) (has_at (passages d) i z lt) in
+    let a = of_flat_map (passages_from d) (component_starts d) (get_or (passages d) i z) (has_at (passages d) i z lt) in
     let at = place_in (passages_from d a.0) (get_or (passages d) i z) a.2 in
     let p = placed d a.0 a.1 in
     let inside = p.1.within in

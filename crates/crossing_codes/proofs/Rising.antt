@@ -4,7 +4,7 @@ use Rattle.std.specs.Prelude.{nat_lt}
 use Rattle.std.specs.List.{range_with_len, filter}
 use Rattle.std.proofs.lemmas.Bool.{lt-ltb, le-ltb}
 use Rattle.grid_core.specs.Diagram.{Diagram, size}
-use Rattle.crossing_codes.specs.Components.{is_least, starts}
+use Rattle.crossing_codes.specs.Components.{is_least, component_starts}
 use Rattle.crossing_codes.proofs.Members.{Has, has_right}
 use Rattle.crossing_codes.proofs.Ordered.{Ordered, ordered_filter, ordered_range}
 
@@ -26,7 +26,8 @@ below_kept s (x ∷ front) behind r =
     ∙ ap (λ zs. x ∷ zs) (below_kept s front behind r.1)
 
 -- the starts in front of one are those below it
-pub starts_below : (d : Diagram) (s : ℕ) (front behind : List ℕ) → starts d ≡ front ++ s ∷ behind → filter (λ e. nat_lt e s) (starts d) ≡ front
+pub starts_below : (d : Diagram) (s : ℕ) (front behind : List ℕ) → component_starts d ≡ front ++ s ∷ behind
+    → filter (λ e. nat_lt e s) (component_starts d) ≡ front
 starts_below d s front behind cut =
     ap (filter (λ e. nat_lt e s)) cut
     ∙ below_kept s front behind

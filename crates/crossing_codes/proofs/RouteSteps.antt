@@ -12,7 +12,7 @@ use Rattle.grid_core.specs.declared.grid.TheConstants.{MAX_SIZE}
 use Rattle.grid_core.specs.Diagram.{Diagram, IsGrid}
 use Rattle.crossing_codes.specs.declared.passages.Passage.{Passage}
 use Rattle.crossing_codes.specs.declared.edges.TheConstants.{MAX_SLOTS}
-use Rattle.crossing_codes.specs.Components.{starts}
+use Rattle.crossing_codes.specs.Components.{component_starts}
 use Rattle.crossing_codes.specs.Passages.{passages_from}
 use Rattle.crossing_codes.specs.Edges.{leads_to, all_lead_to}
 use Rattle.crossing_codes.proofs.Placed.{lead_split}
@@ -64,7 +64,7 @@ round_more g ss i so_far longer lt is more =
     ∙ (sym (flat_map-append g (take i ss) (get_or ss i 0 ∷ [])) ∙ ap (flat_map g) (sym (take_more ss i 0 lt)))))
 
 -- so far there are few passages
-pub few_so_far : (d : Diagram) → IsGrid d → (ss : List ℕ) (i : ℕ) (ps : List Passage) → ss ≡ starts d → ps ≡ flat_map (passages_from d) (take i ss)
+pub few_so_far : (d : Diagram) → IsGrid d → (ss : List ℕ) (i : ℕ) (ps : List Passage) → ss ≡ component_starts d → ps ≡ flat_map (passages_from d) (take i ss)
     → length ps ≤ MAX_SLOTS
 few_so_far d grid ss i ps are is =
     let few = few_passages d grid in

@@ -4,7 +4,7 @@ use Rattle.std.specs.Prelude.{nat_le}
 use Rattle.std.specs.List.{range_with_len, list_all, flat_map}
 use Rattle.std.proofs.lemmas.Bool.{cases_lt, leb-true, le-leb, and_parts, and_from}
 use Rattle.grid_core.specs.Diagram.{Diagram, IsGrid, size}
-use Rattle.crossing_codes.specs.Components.{next_column, column_after, round_length, component, is_least, starts}
+use Rattle.crossing_codes.specs.Components.{next_column, column_after, round_length, component, is_least, component_starts}
 use Rattle.crossing_codes.proofs.Members.{Has, Apart, apart_filter, apart_range, apart_flat_map, of_map, of_range, of_filter, has_map, has_range, has_filter}
 use Rattle.crossing_codes.proofs.ColumnsAfter.{after_below, after_add, apart_until, round_is}
 
@@ -79,21 +79,22 @@ least_member [] c h = absurd h
 least_member (x ∷ xs) c h = least_of x xs
 
 -- each column is in the component of a start
-pub start_of : (d : Diagram) → IsGrid d → (c : ℕ) → c < size d → (s : ℕ) × Has (starts d) s × Has (component d s) c
+pub start_of : (d : Diagram) → IsGrid d → (c : ℕ) → c < size d → (s : ℕ) × Has (component_starts d) s × Has (component d s) c
 start_of d grid c lt =
     let m = least_member (component d c) c (has_itself d grid c lt) in
     let within = member_below d grid c m.0 lt m.1 in
     let least : is_least d m.0 ≡ true = all_pass (λ b. nat_le m.0 b) (component d m.0) (λ b h. le-leb m.0 b (m.2 b (has_whole d grid c m.0 b lt m.1 h))) in
     (m.0, has_filter (is_least d) (range_with_len 0 (size d)) m.0 (has_range 0 (size d) m.0 (omega arith) (omega arith)) least, has_back d grid c m.0 lt m.1)
 
-pub start_below : (d : Diagram) (s : ℕ) → Has (starts d) s → s < size d
+pub start_below : (d : Diagram) (s : ℕ) → Has (component_starts d) s → s < size d
 start_below d s h = let r = of_range 0 (size d) s (of_filter (is_least d) (range_with_len 0 (size d)) s h).0 in omega arith
 
-pub start_least : (d : Diagram) (s b : ℕ) → Has (starts d) s → Has (component d s) b → s ≤ b
+pub start_least : (d : Diagram) (s b : ℕ) → Has (component_starts d) s → Has (component d s) b → s ≤ b
 start_least d s b h k = leb-true s b (each_passes (λ a. nat_le s a) (component d s) (of_filter (is_least d) (range_with_len 0 (size d)) s h).1 b k)
 
 -- of exactly one
-pub one_start : (d : Diagram) → IsGrid d → (s t b : ℕ) → Has (starts d) s → Has (starts d) t → Has (component d s) b → Has (component d t) b → s ≡ t
+pub one_start : (d : Diagram) → IsGrid d → (s t b : ℕ) → Has (component_starts d) s → Has (component_starts d) t → Has (component d s) b → Has (component d t) b
+    → s ≡ t
 one_start d grid s t b hs ht at_s at_t =
     let below_s = start_below d s hs in
     let below_t = start_below d t ht in
@@ -101,14 +102,14 @@ one_start d grid s t b hs ht at_s at_t =
     let t_in_s = has_whole d grid s b t below_s at_s (has_back d grid t b below_t at_t) in
     omega (arith, start_least d s t hs t_in_s, start_least d t s ht s_in_t)
 
-pub starts_apart : (d : Diagram) → Apart (starts d)
+pub starts_apart : (d : Diagram) → Apart (component_starts d)
 starts_apart d = apart_filter (is_least d) (range_with_len 0 (size d)) (apart_range 0 (size d))
 
 -- the columns in the order in which the strands run through them
 abbrev pub order : Diagram → List ℕ
-order d = flat_map (component d) (starts d)
+order d = flat_map (component d) (component_starts d)
 
 pub order_apart : (d : Diagram) → IsGrid d → Apart (order d)
 order_apart d grid =
-    apart_flat_map (component d) (starts d) (λ s h. component_apart d grid s (start_below d s h))
+    apart_flat_map (component d) (component_starts d) (λ s h. component_apart d grid s (start_below d s h))
     (λ s t b hs ht at_s at_t. one_start d grid s t b hs ht at_s at_t) (starts_apart d)

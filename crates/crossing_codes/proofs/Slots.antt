@@ -11,7 +11,7 @@ use Rattle.grid_core.specs.declared.grid.TheConstants.{MAX_SIZE}
 use Rattle.crossing_codes.specs.declared.layout.TheConstants.{MAX_CELLS}
 use Rattle.crossing_codes.specs.declared.passages.Passage.{Passage}
 use Rattle.crossing_codes.specs.Passages.{passages}
-use Rattle.crossing_codes.specs.Layout.{cell, slot}
+use Rattle.crossing_codes.specs.Layout.{cell_place, slot}
 use Rattle.crossing_codes.specs.declared.edges.TheConstants.{MAX_SLOTS}
 use Rattle.crossing_codes.proofs.Members.{Has, has_at, one_place, apart_map, of_map, has_range, fewer}
 use Rattle.crossing_codes.proofs.AllPassages.{passages_apart, passage_at}
@@ -20,20 +20,20 @@ use Rattle.crossing_codes.proofs.AllPassages.{passages_apart, passage_at}
 abbrev pub IsInside : Passage → Type 0
 IsInside p = (p.column < MAX_SIZE) × (p.row < MAX_SIZE)
 
-cell_below : (c r : ℕ) → c < MAX_SIZE → r < MAX_SIZE → cell c r < MAX_CELLS
+cell_below : (c r : ℕ) → c < MAX_SIZE → r < MAX_SIZE → cell_place c r < MAX_CELLS
 cell_below c r hc hr = omega arith
 
-cell_once : (b c r s : ℕ) → b < MAX_SIZE → c < MAX_SIZE → cell b r ≡ cell c s → (b ≡ c) × (r ≡ s)
+cell_once : (b c r s : ℕ) → b < MAX_SIZE → c < MAX_SIZE → cell_place b r ≡ cell_place c s → (b ≡ c) × (r ≡ s)
 cell_once b c r s hb hc e = elim (cases_order r s) [
   | inl same ↦ (omega arith, same)
   | inr other ↦ elim other [ inl less ↦ absurd (omega arith) | inr more ↦ absurd (omega arith) ]
 ]
 
-slot_under : (p : Passage) → p.over ≡ false → slot p ≡ cell p.column p.row
-slot_under p e = ap (λ b. if b then MAX_CELLS + cell p.column p.row else cell p.column p.row) e
+slot_under : (p : Passage) → p.over ≡ false → slot p ≡ cell_place p.column p.row
+slot_under p e = ap (λ b. if b then MAX_CELLS + cell_place p.column p.row else cell_place p.column p.row) e
 
-slot_over : (p : Passage) → p.over ≡ true → slot p ≡ MAX_CELLS + cell p.column p.row
-slot_over p e = ap (λ b. if b then MAX_CELLS + cell p.column p.row else cell p.column p.row) e
+slot_over : (p : Passage) → p.over ≡ true → slot p ≡ MAX_CELLS + cell_place p.column p.row
+slot_over p e = ap (λ b. if b then MAX_CELLS + cell_place p.column p.row else cell_place p.column p.row) e
 
 same_passage : (p q : Passage) → p.over ≡ q.over → p.column ≡ q.column → p.row ≡ q.row → p ≡ q
 same_passage p q eo ec er =

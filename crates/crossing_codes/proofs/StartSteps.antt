@@ -8,7 +8,7 @@ use Rattle.std.proofs.lemmas.List.Concat.{flat_map-append}
 use Rattle.std.proofs.lemmas.List.Folds.{list_any-append}
 use Rattle.grid_core.specs.Diagram.{Diagram, IsGrid, size}
 use Rattle.colour_rows.proofs.Ranges.{range_longer}
-use Rattle.crossing_codes.specs.Components.{component, is_least, starts}
+use Rattle.crossing_codes.specs.Components.{component, is_least, component_starts}
 use Rattle.crossing_codes.proofs.Members.{Has, has_range, of_range, has_filter, of_filter, has_flat_map, of_flat_map}
 use Rattle.crossing_codes.proofs.SharedColumns.{has_itself, start_of, start_least, one_start}
 use Rattle.crossing_codes.proofs.Strands.{any_has, has_any}
@@ -20,7 +20,7 @@ so_far d i = filter (is_least d) (range_with_len 0 i)
 abbrev pub reached : Diagram → ℕ → List ℕ
 reached d i = flat_map (component d) (so_far d i)
 
-is_start : (d : Diagram) (i s : ℕ) → i ≤ size d → Has (so_far d i) s → Has (starts d) s × (s < i)
+is_start : (d : Diagram) (i s : ℕ) → i ≤ size d → Has (so_far d i) s → Has (component_starts d) s × (s < i)
 is_start d i s most h =
     let r = of_filter (is_least d) (range_with_len 0 i) s h in
     let m = of_range 0 i s r.0 in

@@ -8,7 +8,7 @@ use Rattle.std.proofs.lemmas.List.{append-nil, length-append, get_or-append-add,
 use Rattle.std.proofs.lemmas.List.Sums.{position_or_len_is}
 use Rattle.grid_core.specs.Diagram.{Diagram, IsGrid, size}
 use Rattle.crossing_codes.specs.declared.passages.Passage.{Passage}
-use Rattle.crossing_codes.specs.Components.{column_after, round_length, component, starts}
+use Rattle.crossing_codes.specs.Components.{column_after, round_length, component, component_starts}
 use Rattle.crossing_codes.specs.Passages.{passages_from, passages}
 use Rattle.crossing_codes.specs.Edges.{place, loops}
 use Rattle.crossing_codes.specs.EdgeColouring.{place_by_first_passage, place_where_column_begins}
@@ -132,14 +132,14 @@ has_any c (x ∷ xs) h = elim h [
     by true e = refl
     by false e = e
 
-pub loop_start : (d : Diagram) (s : ℕ) → Has (loops d) s → Has (starts d) s
-loop_start d s h = (of_filter (λ c. length (passages_from d c) == 0) (starts d) s h).0
+pub loop_start : (d : Diagram) (s : ℕ) → Has (loops d) s → Has (component_starts d) s
+loop_start d s h = (of_filter (λ c. length (passages_from d c) == 0) (component_starts d) s h).0
 
 pub loop_empty : (d : Diagram) (s : ℕ) → Has (loops d) s → length (passages_from d s) ≡ 0
-loop_empty d s h = eqb-true (length (passages_from d s)) 0 (of_filter (λ c. length (passages_from d c) == 0) (starts d) s h).1
+loop_empty d s h = eqb-true (length (passages_from d s)) 0 (of_filter (λ c. length (passages_from d c) == 0) (component_starts d) s h).1
 
-pub has_loop : (d : Diagram) (s : ℕ) → Has (starts d) s → length (passages_from d s) ≡ 0 → Has (loops d) s
-has_loop d s h e = has_filter (λ c. length (passages_from d c) == 0) (starts d) s h (eq-eqb (length (passages_from d s)) 0 e)
+pub has_loop : (d : Diagram) (s : ℕ) → Has (component_starts d) s → length (passages_from d s) ≡ 0 → Has (loops d) s
+has_loop d s h e = has_filter (λ c. length (passages_from d c) == 0) (component_starts d) s h (eq-eqb (length (passages_from d s)) 0 e)
 
 pub loop_place : (d : Diagram) → IsGrid d → (i c : ℕ) → i < length (loops d) → Has (component d (get_or (loops d) i 0)) c
     → position_or_len (λ s. list_any (λ b. b == c) (component d s)) (loops d) ≡ i
@@ -149,7 +149,7 @@ loop_place d grid i c lt h =
     let hk = loop_start d (get_or (loops d) k 0) (has_at (loops d) k 0 (omega arith)) in
     let hi = loop_start d (get_or (loops d) i 0) (has_at (loops d) i 0 lt) in
     let same = one_start d grid (get_or (loops d) k 0) (get_or (loops d) i 0) c hk hi (any_has c (component d (get_or (loops d) k 0)) e) h in
-    let place = one_place (loops d) 0 k i (apart_filter (λ s. length (passages_from d s) == 0) (starts d) (starts_apart d)) (omega arith) lt same in
+    let place = one_place (loops d) 0 k i (apart_filter (λ s. length (passages_from d s) == 0) (component_starts d) (starts_apart d)) (omega arith) lt same in
     absurd (omega arith)))
     (λ within. has_any c (component d (get_or (loops d) i 0)) h)
 

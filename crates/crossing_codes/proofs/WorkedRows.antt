@@ -6,7 +6,7 @@ use Rattle.grid_core.specs.Diagram.{Diagram}
 use Rattle.grid_core.specs.Trefoils.{right_trefoil, left_trefoil}
 use Rattle.grid_laws.proofs.WorkedDiagrams.{unknot}
 use Rattle.quandle_core.specs.Tables.{dihedral, tetrahedral}
-use Rattle.crossing_codes.specs.Components.{component, starts}
+use Rattle.crossing_codes.specs.Components.{component, component_starts}
 use Rattle.crossing_codes.specs.StrandPlaces.{on_column, on_row, place_after, met_after, at_cross}
 use Rattle.crossing_codes.specs.Edges.{edges_after}
 use Rattle.crossing_codes.specs.Code.{code}
@@ -39,7 +39,7 @@ unknot_places : map (λ k. place_after unknot k (at_cross unknot 0)) (1 ∷ 2 �
     ≡ on_column 0 1 ∷ on_row 0 1 ∷ on_row 1 1 ∷ on_column 1 1 ∷ on_column 1 0 ∷ on_row 1 0 ∷ on_row 0 0 ∷ on_column 0 0 ∷ []
 unknot_places = refl
 
-one_component : starts right_trefoil ≡ 0 ∷ []
+one_component : component_starts right_trefoil ≡ 0 ∷ []
 one_component = refl
 
 trefoil_leads : edges_after right_trefoil ≡ 2 ∷ 3 ∷ 4 ∷ 5 ∷ 6 ∷ 1 ∷ []

@@ -28,5 +28,5 @@ abbrev pub is_least : Diagram → ℕ → Bool
 is_least d c = list_all (λ b. nat_le c b) (component d c)
 
 -- the components in order, each by its least column
-abbrev pub starts : Diagram → List ℕ
-starts d = filter (is_least d) (range_with_len 0 (size d))
+abbrev pub component_starts : Diagram → List ℕ
+component_starts d = filter (is_least d) (range_with_len 0 (size d))

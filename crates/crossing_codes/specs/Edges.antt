@@ -4,7 +4,7 @@ use Rattle.std.specs.Prelude.{ℕ, ◌+◌, ◌==◌, ◌&&◌, Bool, not, List,
 use Rattle.std.specs.List.{range_with_len, flat_map, position_or_len}
 use Rattle.grid_core.specs.Diagram.{Diagram}
 use Rattle.crossing_codes.specs.declared.passages.Passage.{Passage}
-use Rattle.crossing_codes.specs.Components.{starts}
+use Rattle.crossing_codes.specs.Components.{component_starts}
 use Rattle.crossing_codes.specs.Passages.{passages, passages_from}
 
 -- the edge to which each of p passages of a component leads, when the components before it have b edges
@@ -18,11 +18,11 @@ all_lead_to b (p ∷ ps) = leads_to b p ++ all_lead_to (b + p) ps
 
 -- the edge to which each passage leads, in the order of the passages
 abbrev pub edges_after : Diagram → List ℕ
-edges_after d = all_lead_to 0 (map (λ s. length (passages_from d s)) (starts d))
+edges_after d = all_lead_to 0 (map (λ s. length (passages_from d s)) (component_starts d))
 
 -- the number of edges of the components that come before that of start s, which are those of lesser starts: as many as their passages
 abbrev pub edges_before : Diagram → ℕ → ℕ
-edges_before d s = length (flat_map (passages_from d) (filter (λ e. nat_lt e s) (starts d)))
+edges_before d s = length (flat_map (passages_from d) (filter (λ e. nat_lt e s) (component_starts d)))
 
 -- the two are the same passage
 abbrev pub is_passage : Passage → Passage → Bool
@@ -41,4 +41,4 @@ edge_to d p = slice_index (edges_after d) (place d p)
 
 -- the least columns of the components without a passage
 abbrev pub loops : Diagram → List ℕ
-loops d = filter (λ s. length (passages_from d s) == 0) (starts d)
+loops d = filter (λ s. length (passages_from d s) == 0) (component_starts d)

@@ -17,12 +17,12 @@ abbrev pub HasColumns : Kind → Diagram → List ℕ → Type 0
 HasColumns kind d columns = (r : ℕ) → r < size d → slice_index columns r ≡ column_of kind d r
 
 -- the place of a cell in a table by row and column
-abbrev pub cell : ℕ → ℕ → ℕ
-cell c r = r * MAX_SIZE + c
+abbrev pub cell_place : ℕ → ℕ → ℕ
+cell_place c r = r * MAX_SIZE + c
 
 -- the slot of a passage in a table of the passages under and then of those over
 abbrev pub slot : Passage → ℕ
-slot p = if p.over then MAX_CELLS + cell p.column p.row else cell p.column p.row
+slot p = if p.over then MAX_CELLS + cell_place p.column p.row else cell_place p.column p.row
 
 -- a table that has in the slot of each passage its number in the list
 abbrev pub HasNumbers : List Passage → List ℕ → Type 0
@@ -38,8 +38,8 @@ crossings_below d n = flat_map (λ r. map (λ c. record { column = c; row = r })
 
 -- a table that has at each cell of the list its number, from 1
 abbrev pub IsNumbered : List Crossed → List ℕ → Type 0
-IsNumbered cells table = (i : ℕ) (at : Crossed) → i < length cells → slice_index_or cells i at ≡ at → slice_index table (cell at.column at.row) ≡ i + 1
+IsNumbered cells table = (i : ℕ) (at : Crossed) → i < length cells → slice_index_or cells i at ≡ at → slice_index table (cell_place at.column at.row) ≡ i + 1
 
 -- a table that has at the cell of a passage the number of its crossing
-abbrev pub HasNumber : Diagram → List ℕ → Passage → Type 0
-HasNumber d table p = slice_index table (cell p.column p.row) ≡ crossing_number d p.column p.row
+abbrev pub HasCrossingNumber : Diagram → List ℕ → Passage → Type 0
+HasCrossingNumber d table p = slice_index table (cell_place p.column p.row) ≡ crossing_number d p.column p.row

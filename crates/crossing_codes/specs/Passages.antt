@@ -7,7 +7,7 @@ use Rattle.grid_core.specs.Span.{lies_within}
 use Rattle.grid_core.specs.Parts.{column_span, ends, is_up, is_rightward}
 use Rattle.colour_rows.specs.Walk.{passed}
 use Rattle.crossing_codes.specs.declared.passages.Passage.{Passage}
-use Rattle.crossing_codes.specs.Components.{component, starts}
+use Rattle.crossing_codes.specs.Components.{component, component_starts}
 
 -- where a column passes over a row: the column covers the row, and lies strictly between the row's ends
 pub record Crossed : Type 0 where
@@ -48,4 +48,4 @@ passages_from d c = flat_map (along d) (component d c)
 
 -- the passages of all components in order, each followed from the X of its least column
 abbrev pub passages : Diagram → List Passage
-passages d = flat_map (passages_from d) (starts d)
+passages d = flat_map (passages_from d) (component_starts d)

@@ -6,7 +6,7 @@ use Rattle.grid_core.specs.Crossing.{is_positive}
 use Rattle.crossing_codes.specs.declared.crossing.Code.{Code}
 use Rattle.crossing_codes.specs.declared.crossing.Crossing.{Crossing}
 use Rattle.crossing_codes.specs.declared.passages.Passage.{Passage}
-use Rattle.crossing_codes.specs.Components.{starts}
+use Rattle.crossing_codes.specs.Components.{component_starts}
 use Rattle.crossing_codes.specs.Passages.{Crossed, crossings, passages_from}
 
 -- X[i,j,k,l]
@@ -34,4 +34,4 @@ gauss_line d ps = codes "gauss" ++ (flat_map (λ p. codes " " ++ passage_token d
 
 -- a line for each component with passages, in order
 abbrev pub gauss_text : Diagram → List ℕ
-gauss_text d = flat_map (gauss_line d) (filter (λ ps. not (length ps == 0)) (map (passages_from d) (starts d)))
+gauss_text d = flat_map (gauss_line d) (filter (λ ps. not (length ps == 0)) (map (passages_from d) (component_starts d)))

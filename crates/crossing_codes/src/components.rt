@@ -2,7 +2,7 @@
 ghost use Rattle.std.specs.Prelude.{◌≡◌, ◌<◌, ◌||◌, ◌==◌, ℕ, length, slice_index_or, false};
 ghost use Rattle.std.specs.List.{All, list_any};
 ghost use Rattle.grid_core.specs.Diagram.{size};
-ghost use Rattle.crossing_codes.specs.Components.{component, starts};
+ghost use Rattle.crossing_codes.specs.Components.{component, component_starts};
 
 use crate::layout::Layout;
 use arrayvec::ArrayVec;
@@ -32,7 +32,7 @@ pub(crate) fn component(layout: &Layout, start: u8) -> Columns
 
 /// The least columns of the components, from the left.
 pub(crate) fn starts(layout: &Layout) -> Columns
-    ensures starts { result.items ≡ starts layout.now }
+    ensures starts { result.items ≡ component_starts layout.now }
     ensures inside { All (λ c. c < size layout.now) result.items }
 {
     let mut seen = [false; MAX_SIZE];

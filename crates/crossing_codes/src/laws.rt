@@ -11,7 +11,7 @@ ghost use Rattle.quandle_core.specs.Quandle.{Table, IsQuandle};
 ghost use Rattle.colour_rows.specs.Colouring.{IsColouring};
 ghost use Rattle.colour_list.specs.Listing.{colourings};
 ghost use Rattle.quandle_core.specs.Bijection.{IsBijection};
-ghost use Rattle.crossing_codes.specs.Components.{component, starts};
+ghost use Rattle.crossing_codes.specs.Components.{component, component_starts};
 ghost use Rattle.crossing_codes.specs.declared.passages.Passage.{Passage};
 ghost use Rattle.crossing_codes.specs.Passages.{Crossed, crossings, through, along_column, along_row, passages, passages_from};
 ghost use Rattle.crossing_codes.specs.StrandPlaces.{place_after, met_after, at_cross};
@@ -49,8 +49,8 @@ pub fn where_crossings_stand()
 
 /// The components share out the columns: each column is in exactly one, and none comes before the start of its component.
 pub fn the_components_share_out_the_columns()
-    ensures each { (d : Diagram) → IsGrid d → IsPermutation (range_with_len 0 (size d)) (flat_map (component d) (starts d)) }
-    ensures least { (d : Diagram) (s c : ℕ) → Contains (starts d) s → Contains (component d s) c → s ≤ c }
+    ensures each { (d : Diagram) → IsGrid d → IsPermutation (range_with_len 0 (size d)) (flat_map (component d) (component_starts d)) }
+    ensures least { (d : Diagram) (s c : ℕ) → Contains (component_starts d) s → Contains (component d s) c → s ≤ c }
 {}
 
 /// Each crossing is passed once over and once under, so there are twice as many passages as crossings.
@@ -100,9 +100,9 @@ pub fn each_edge_lies_between_two_passages()
 /// The edges of a component are consecutive, and lie between its passages in their order, the last of which leads back to the first edge.
 /// They come behind those of the components with lesser starts.
 pub fn the_edges_of_a_component_are_consecutive()
-    ensures comes { (d : Diagram) (s : ℕ) → IsGrid d → Contains (starts d) s
+    ensures comes { (d : Diagram) (s : ℕ) → IsGrid d → Contains (component_starts d) s
         → map (edge_from d) (passages_from d s) ≡ range_with_len (edges_before d s + 1) (length (passages_from d s)) }
-    ensures leads { (d : Diagram) (s : ℕ) → IsGrid d → Contains (starts d) s
+    ensures leads { (d : Diagram) (s : ℕ) → IsGrid d → Contains (component_starts d) s
         → map (edge_to d) (passages_from d s) ≡ leads_to (edges_before d s) (length (passages_from d s)) }
 {}
 

@@ -6,7 +6,7 @@ ghost use Rattle.grid_core.specs.Diagram.{IsGrid, IsOneEach, size, rows_of, row_
 ghost use Rattle.grid_core.specs.Span.{lies_within};
 ghost use Rattle.grid_core.specs.Parts.{column_of, column_span, ends, is_up, is_rightward, covers};
 ghost use Rattle.crossing_codes.specs.Components.{next_column};
-ghost use Rattle.crossing_codes.specs.Layout.{HasColumns, cell};
+ghost use Rattle.crossing_codes.specs.Layout.{HasColumns, cell_place};
 ghost use Rattle.crossing_codes.specs.declared.layout.TheConstants.{MAX_CELLS};
 
 use grid_core::{Grid, Kind, MAX_SIZE, Span};
@@ -158,7 +158,7 @@ fn columns_by_row(grid: &Grid, kind: Kind) -> [u8; MAX_SIZE]
 /// The place of a cell in a table by row and column.
 pub(crate) fn cell(column: u8, row: u8) -> usize
     requires { (column < MAX_SIZE) × (row < MAX_SIZE) }
-    ensures is { result ≡ cell column row }
+    ensures is { result ≡ cell_place column row }
     ensures within { result < MAX_CELLS }
 {
     row as usize * MAX_SIZE + column as usize

@@ -5,7 +5,7 @@ ghost use Rattle.grid_core.specs.Diagram.{size};
 ghost use Rattle.grid_core.specs.declared.grid.TheConstants.{MAX_SIZE};
 ghost use Rattle.crossing_codes.specs.Passages.{crossings};
 ghost use Rattle.crossing_codes.specs.OnTheWay.{LiesIn};
-ghost use Rattle.crossing_codes.specs.Layout.{crossings_below, IsNumbered, HasNumber};
+ghost use Rattle.crossing_codes.specs.Layout.{crossings_below, IsNumbered, HasCrossingNumber};
 ghost use Rattle.crossing_codes.specs.Printed.{crossing_line, crossing_number, passage_token, gauss_line, pd_text, gauss_text};
 
 use crate::code::is_positive;
@@ -95,7 +95,7 @@ fn push_gauss_line(
     round: &[Passage],
 ) -> Result<(), AllocError>
     requires inside { All (LiesIn layout.now) round.now }
-    requires numbers { All (HasNumber layout.now numbers.now) round.now }
+    requires numbers { All (HasCrossingNumber layout.now numbers.now) round.now }
     ensures { OnOk result (out.new.items ≡ out.old.items ++ gauss_line layout.now round.now) }
 {
     out.extend_from_slice(b"gauss")?;
@@ -113,7 +113,7 @@ fn push_passage(
     passage: Passage,
 ) -> Result<(), AllocError>
     requires inside { LiesIn layout.now passage }
-    requires number { HasNumber layout.now numbers.now passage }
+    requires number { HasCrossingNumber layout.now numbers.now passage }
     ensures { OnOk result (out.new.items ≡ out.old.items ++ (codes " " ++ passage_token layout.now passage)) }
 {
     let _size = layout.size();

@@ -16,7 +16,7 @@ use Rattle.std.specs.Cmp.Lexicographic.{pointwise}
 use Rattle.std.specs.Cmp.Rules.{signed_items}
 use Rattle.grid_moves.specs.Joining.{Equivalent}
 use Rattle.linking_core.proofs.Steps.{equivalent_alike}
-use Rattle.evidence_core.specs.Links.{AreLinkingOf, LinkingDiffers, place_cause, linked_cause, are_same, same_cause, cause_of_links}
+use Rattle.evidence_core.specs.Links.{AreLinkingOf, LinkingDiffers, place_cause, linked_cause, are_same_links, same_cause, cause_of_links}
 
 pub no_place : (which : ℕ) (o : Option ℕ) → place_cause which o ≡ None → o ≡ None
 no_place which None none = refl
@@ -55,7 +55,7 @@ not_same : (one two : Linked) → same_cause one two ≡ None → one.components
 not_same one two none count numbers =
     let counts : (one.components == two.components) ≡ true = eq-eqb one.components two.components count in
     let lists : pointwise int_eq one.numbers two.numbers ≡ true = (signed_items one.numbers two.numbers).1 numbers in
-    let same : are_same one two ≡ true = and_from (one.components == two.components) (pointwise int_eq one.numbers two.numbers) counts lists in
+    let same : are_same_links one two ≡ true = and_from (one.components == two.components) (pointwise int_eq one.numbers two.numbers) counts lists in
     let some : same_cause one two ≡ Some cause.Equal = rw same refl in
     let no : ◌≡◌ {A = Option Cause} None (Some cause.Equal) = sym none ∙ some in
     cc
@@ -72,13 +72,13 @@ links_hold d e one two none = first (linked_cause 1 d one) refl none
     first (Some c) one_is none = absurd cc
 
 pub links_have_no_cause : (d e : Diagram) (one two : Linked) → LinkingDiffers d e one two → cause_of_links d e one two ≡ None
-links_have_no_cause d e one two holds = by (are_same one two) refl
+links_have_no_cause d e one two holds = by (are_same_links one two) refl
   where
-    differ : are_same one two ≡ true → ⊥
+    differ : are_same_links one two ≡ true → ⊥
     differ same =
         let both = and_parts (one.components == two.components) (pointwise int_eq one.numbers two.numbers) same in
         holds.differ (eqb-true one.components two.components both.0) ((signed_items one.numbers two.numbers).0 both.1)
 
-    by : (t : Bool) → are_same one two ≡ t → cause_of_links d e one two ≡ None
+    by : (t : Bool) → are_same_links one two ≡ t → cause_of_links d e one two ≡ None
     by true same = absurd (differ same)
     by false other = rw (linking_has_no_cause 1 d one holds.first, linking_has_no_cause 2 e two holds.second, other) refl

@@ -37,11 +37,11 @@ linked_cause which d l =
     if l.components == length (components d) then place_cause which (first_unequal int_eq l.numbers (linking d)) else Some (cause.Components which)
 
 -- the same is said of both
-abbrev pub are_same : Linked → Linked → Bool
-are_same one two = (one.components == two.components) && pointwise int_eq one.numbers two.numbers
+abbrev pub are_same_links : Linked → Linked → Bool
+are_same_links one two = (one.components == two.components) && pointwise int_eq one.numbers two.numbers
 
 abbrev pub same_cause : Linked → Linked → Option Cause
-same_cause one two = if are_same one two then Some cause.Equal else None
+same_cause one two = if are_same_links one two then Some cause.Equal else None
 
 abbrev pub cause_of_links : Diagram → Diagram → Linked → Linked → Option Cause
 cause_of_links d e one two = or_else (linked_cause 1 d one) (or_else (linked_cause 2 e two) (same_cause one two))

@@ -4,7 +4,7 @@ ghost use Rattle.evidence_core.specs.Links.{place_cause};
 
 /// The answer of the checker.
 #[derive(Clone, Copy, Debug, PartialEq, Eq)]
-pub enum Ruling {
+pub enum NumberRuling {
     /// The evidence holds.
     Accepted,
     /// It does not, and this is the first cause.

@@ -2,7 +2,7 @@
 ghost use Rattle.std.specs.Prelude.{◌≡◌, IfOk, length, take};
 ghost use Rattle.linking_core.specs.Component.{components};
 ghost use Rattle.linking_core.specs.Linking.{linking};
-ghost use Rattle.evidence_core.specs.Links.{linked_of, linked_cause, are_same, cause_of_links};
+ghost use Rattle.evidence_core.specs.Links.{linked_of, linked_cause, are_same_links, cause_of_links};
 
 use crate::cause::{Cause, place_cause};
 use crate::evidence::Linked;
@@ -66,7 +66,7 @@ pub fn linked_of(alloc: Global, grid: &Grid) -> Result<Linked, OutOfMemory>
 
 /// Whether the same is said of both.
 pub fn are_same(one: &Linked, two: &Linked) -> bool
-    ensures { result ≡ are_same one.now two.now }
+    ensures { result ≡ are_same_links one.now two.now }
 {
     one.components == two.components && one.numbers.as_slice() == two.numbers.as_slice()
 }

@@ -5,15 +5,15 @@ use Rattle.std.proofs.lemmas.List.{get_or_past}
 use Rattle.std.proofs.lemmas.List.Folds.{list_all_at}
 use Rattle.std.proofs.lemmas.Bool.{cases_lt, eq-eqb}
 use Rattle.std.proofs.lemmas.Bool.Decides.{eqb_tells}
-use Rattle.frontier_core.specs.Held.{Held, IsHeld, ids_of}
+use Rattle.frontier_core.specs.Held.{HeldIds, IsHeld, ids_of}
 use Rattle.frontier_core.specs.Order.{SizedId, of_size, IsOrderOf}
 use Rattle.frontier_core.proofs.Orders.{of_size_here, of_size_other}
 
 -- a test that computes
-abbrev pub is_absent : Held → ℕ → Bool
+abbrev pub is_absent : HeldIds → ℕ → Bool
 is_absent held id = list_all (λ ids. list_all (λ other. not (other == id)) ids) held.by_size
 
-pub absent : (held : Held) (id : ℕ) → is_absent held id ≡ true → IsHeld held id → ⊥
+pub absent : (held : HeldIds) (id : ℕ) → is_absent held id ≡ true → IsHeld held id → ⊥
 absent held id none at = elim (cases_lt at.0 (length held.by_size)) [
   | inl lt ↦
       let found : not (get_or (ids_of held at.0) at.1.0 id == id) ≡ false = ap not (eq-eqb (get_or (ids_of held at.0) at.1.0 id) id at.1.2) in
@@ -38,5 +38,5 @@ none_of_size (p ∷ ps) id s others at =
     here rest (suc k, lt, is) = rest (k, omega (arith, lt), is)
 
 -- an id that stands in no pair of what is held, in the order of pushing, is not held
-pub absent_in_order : (order : List SizedId) (held : Held) (id : ℕ) → IsOrderOf order held → All (λ (p : SizedId). p.id ≢ id) order → IsHeld held id → ⊥
+pub absent_in_order : (order : List SizedId) (held : HeldIds) (id : ℕ) → IsOrderOf order held → All (λ (p : SizedId). p.id ≢ id) order → IsHeld held id → ⊥
 absent_in_order order held id is others at = none_of_size order id at.0 others (subst (λ (ids : List ℕ). Contains ids id) (is at.0) at.1)

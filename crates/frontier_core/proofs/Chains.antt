@@ -5,7 +5,7 @@ use Rattle.std.proofs.Math.ListN.{get_or-map}
 use Rattle.std.proofs.Math.Dec.{eqb-suc-zero}
 use Rattle.frontier_core.specs.declared.queue.Queue.{Queue}
 use Rattle.frontier_core.specs.Held.{ids_of}
-use Rattle.frontier_core.specs.Chain.{chain, ids_in, held_by, queue_at, end_before, StandsAt}
+use Rattle.frontier_core.specs.Chain.{chain, ids_in, held_by, queue_at, end_before, IdStandsAt}
 
 pub length-chain : (next : List ℕ) (first count : ℕ) → length (chain next first count) ≡ count
 length-chain next first zero = refl
@@ -36,13 +36,13 @@ chain_longer next first (suc more) last id within ends apart =
     ∙ chain_longer next (get_or next first 0) more last id within ends (λ k lt. apart (suc k) (omega arith)))
 
 -- what stands at a place, by another writing of the queue and its ids
-pub stands_as : {next : List ℕ} {queues : List Queue} (t i x : ℕ) (r : Queue) (ids : List ℕ) → StandsAt next queues t i x → queue_at queues t ≡ r
+pub stands_as : {next : List ℕ} {queues : List Queue} (t i x : ℕ) (r : Queue) (ids : List ℕ) → IdStandsAt next queues t i x → queue_at queues t ≡ r
     → ids_in next r ≡ ids → (i < r.count) × (get_or ids i 0 ≡ x)
 stands_as {next = next} t i x r ids stands queue same =
     (subst (λ (q : Queue). i < q.count) queue stands.within, sym (ap (λ ys. get_or ys i 0) (ap (ids_in next) queue ∙ same)) ∙ stands.is)
 
 pub stands_from : {next : List ℕ} {queues : List Queue} (t i x : ℕ) (r : Queue) (ids : List ℕ) → i < r.count → get_or ids i 0 ≡ x → queue_at queues t ≡ r
-    → ids_in next r ≡ ids → StandsAt next queues t i x
+    → ids_in next r ≡ ids → IdStandsAt next queues t i x
 stands_from {next = next} t i x r ids within is queue same = record {
   within = subst (λ (q : Queue). i < q.count) (sym queue) within;
   is = ap (λ ys. get_or ys i 0) (ap (ids_in next) queue ∙ same) ∙ is;

@@ -7,7 +7,7 @@ use Rattle.std.proofs.lemmas.Bool.{cases_lt}
 use Rattle.frontier_core.specs.declared.queue.Queue.{Queue}
 use Rattle.frontier_core.specs.declared.sizes.TheConstants.{SIZES}
 use Rattle.frontier_core.specs.Held.{ids_of}
-use Rattle.frontier_core.specs.Chain.{held_by, ids_in, queue_at, bit_of, StandsAt, IsLinked}
+use Rattle.frontier_core.specs.Chain.{held_by, ids_in, queue_at, bit_of, IdStandsAt, IsLinked}
 use Rattle.frontier_core.proofs.Chains.{ids_of_queue}
 
 abbrev pub nothing : Queue
@@ -22,7 +22,7 @@ each_empty n s = elim (cases_lt s n) [
   | inr ge ↦ get_or_past (replicate n nothing) s nothing (omega (arith, length-replicate n nothing))
 ]
 
-none_stands : (next : List ℕ) (n s i id : ℕ) → StandsAt next (replicate n nothing) s i id → ⊥
+none_stands : (next : List ℕ) (n s i id : ℕ) → IdStandsAt next (replicate n nothing) s i id → ⊥
 none_stands next n s i id stands = omega (arith, stands.within, ap (λ (q : Queue). q.count) (each_empty n s))
 
 pub linked : (next : List ℕ) → length next < 2 ^ 32 → IsLinked next all_empty 0

@@ -4,7 +4,7 @@ use Rattle.std.proofs.lemmas.List.{get_or-set_same, get_or-set_other, map-append
 use Rattle.std.proofs.lemmas.List.Elements.{filter-append, All-cons}
 use Rattle.std.proofs.lemmas.Bool.{cases_lt, eq-eqb}
 use Rattle.std.proofs.lemmas.Bool.Decides.{eqb_tells}
-use Rattle.frontier_core.specs.Held.{Held, ids_of, pushed, first_id, without_first_id, first_of_least, without_first_of_least}
+use Rattle.frontier_core.specs.Held.{HeldIds, ids_of, pushed, first_id, without_first_id, first_of_least, without_first_of_least}
 use Rattle.frontier_core.specs.Order.{SizedId, sized, of_size, IsOrderOf, TakesFirstOfLeast, PopsLeast}
 use Rattle.frontier_core.specs.Run.{first_place}
 
@@ -24,7 +24,7 @@ of_size_other s p ps other = elim (eqb_tells p.size s) [
 ]
 
 -- a push on the ids of each size
-pub ids_of_pushed : (held : Held) (id size s : ℕ) → size < length held.by_size
+pub ids_of_pushed : (held : HeldIds) (id size s : ℕ) → size < length held.by_size
     → ids_of (pushed held id size) s ≡ ids_of held s ++ of_size s (sized id size ∷ [])
 ids_of_pushed held id size s within = elim (eqb_tells size s) [
   | inl same ↦ ap (ids_of (pushed held id size)) (sym same.1) ∙ get_or-set_same held.by_size size (ids_of held size ++ id ∷ []) [] within
@@ -33,7 +33,7 @@ ids_of_pushed held id size s within = elim (eqb_tells size s) [
       ∙ ap (λ xs. ids_of held s ++ xs) (sym (of_size_other s (sized id size) [] other.1))
 ]
 
-pub order_pushed : (order : List SizedId) (held : Held) (id size : ℕ) → size < length held.by_size → IsOrderOf order held
+pub order_pushed : (order : List SizedId) (held : HeldIds) (id size : ℕ) → size < length held.by_size → IsOrderOf order held
     → IsOrderOf (order ++ sized id size ∷ []) (pushed held id size)
 order_pushed order held id size within is s =
     ids_of_pushed held id size s within ∙ ap (λ xs. xs ++ of_size s (sized id size ∷ [])) (is s) ∙ sym (of_size-append s order (sized id size ∷ []))
@@ -86,7 +86,7 @@ found_where ([] ∷ greater) = elim (found_where greater) [
     none_at found (suc t) lt = found.none_before t (omega (arith, lt))
 
 -- a pop on the ids of each size
-pub ids_of_popped : (held : Held) (found : FoundAt held.by_size) (s : ℕ)
+pub ids_of_popped : (held : HeldIds) (found : FoundAt held.by_size) (s : ℕ)
     → ids_of held s ≡ of_size s (sized found.id (first_place held.by_size) ∷ []) ++ ids_of (without_first_of_least held) s
 ids_of_popped held found s =
     let place = first_place held.by_size in
@@ -158,7 +158,7 @@ split s id ids (p ∷ ps) is none = elim (eqb_tells p.size s) [
     rest_none t lt = sym (of_size_other t p ps (λ e. absurd (omega (arith, e, lt, none_less s (p ∷ ps) none 0 p (omega arith))))) ∙ none t lt
 
 -- a pop on a list of pairs
-pub order_popped : (order : List SizedId) (held : Held) → IsOrderOf order held → PopsLeast order (first_of_least held) (without_first_of_least held)
+pub order_popped : (order : List SizedId) (held : HeldIds) → IsOrderOf order held → PopsLeast order (first_of_least held) (without_first_of_least held)
 order_popped order held is = elim (found_where held.by_size) [
   | inl none ↦ subst (λ o. PopsLeast order o (without_first_of_least held)) (sym none.none)
       (no_pairs order (λ t. sym (is t) ∙ none.empty t), λ t. ap (λ xss. get_or xss t []) none.same ∙ none.empty t)

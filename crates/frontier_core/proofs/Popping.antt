@@ -8,8 +8,8 @@ use Rattle.std.proofs.lemmas.Bool.{cases_lt, lt-ltb}
 use Rattle.std.proofs.lemmas.Bool.Decides.{eqb_tells, nat_tests}
 use Rattle.frontier_core.specs.declared.queue.Queue.{Queue}
 use Rattle.frontier_core.specs.declared.sizes.TheConstants.{SIZES}
-use Rattle.frontier_core.specs.Held.{Held, ids_of, first_of_least, without_first_of_least, first_id, without_first_id}
-use Rattle.frontier_core.specs.Chain.{chain, ids_in, held_by, queue_at, shorter, bit_of, StandsAt, IsLinked}
+use Rattle.frontier_core.specs.Held.{HeldIds, ids_of, first_of_least, without_first_of_least, first_id, without_first_id}
+use Rattle.frontier_core.specs.Chain.{chain, ids_in, held_by, queue_at, shorter, bit_of, IdStandsAt, IsLinked}
 use Rattle.frontier_core.proofs.Chains.{ids_of_queue, stands_as, stands_from}
 use Rattle.frontier_core.proofs.Lists.{map-set, first_found, none_found}
 use Rattle.frontier_core.proofs.Empty.{nothing}
@@ -34,7 +34,7 @@ some_ids q bit = by q.count refl
         absurd (omega (arith, none, bit))
     by (suc n) is = omega arith
 
-module _ (next : List ℕ) (queues : List Queue) (mask : ℕ) (linked : IsLinked next queues mask) (held : Held) (view : held_by next queues ≡ held) where
+module _ (next : List ℕ) (queues : List Queue) (mask : ℕ) (linked : IsLinked next queues mask) (held : HeldIds) (view : held_by next queues ≡ held) where
   empty_at : (t : ℕ) → t < 128 → bit_at mask t ≡ 0 → ids_of (held_by next queues) t ≡ []
   empty_at t lt bit = ids_of_queue next queues t ∙ no_ids next (queue_at queues t) (sym (linked.bits t lt) ∙ bit)
 
@@ -85,7 +85,7 @@ module _ (next : List ℕ) (queues : List Queue) (mask : ℕ) (linked : IsLinked
     other_queue t other = get_or-set_other queues size t (rest) nothing other
 
     -- what stands in the queues behind the pop
-    popped_at : (t i x : ℕ) → StandsAt next queues' t i x → ((t ≡ size) × StandsAt next queues t (suc i) x) ⊎ ((t ≢ size) × StandsAt next queues t i x)
+    popped_at : (t i x : ℕ) → IdStandsAt next queues' t i x → ((t ≡ size) × IdStandsAt next queues t (suc i) x) ⊎ ((t ≢ size) × IdStandsAt next queues t i x)
     popped_at t i x stands = elim (eqb_tells t size) [
       | inl same ↦ let now = stands_as t i x rest (ids_in next rest) stands (ap (queue_at queues') same.1 ∙ this_queue) refl in
           inl (same.1, stands_from t (suc i) x q (q.first ∷ ids_in next rest) (omega (arith, now.0)) now.1 (ap (queue_at queues) same.1) uncons)
@@ -93,15 +93,15 @@ module _ (next : List ℕ) (queues : List Queue) (mask : ℕ) (linked : IsLinked
           inr (other.1, record { within = old.0; is = old.1 })
     ]
 
-    stays_at : (t i x : ℕ) → t ≢ size → StandsAt next queues t i x → StandsAt next queues' t i x
+    stays_at : (t i x : ℕ) → t ≢ size → IdStandsAt next queues t i x → IdStandsAt next queues' t i x
     stays_at t i x other stands = stands_from t i x (queue_at queues t) (ids_in next (queue_at queues t)) stands.within stands.is (other_queue t other) refl
 
-    moves_up : (i x : ℕ) → StandsAt next queues size (suc i) x → StandsAt next queues' size i x
+    moves_up : (i x : ℕ) → IdStandsAt next queues size (suc i) x → IdStandsAt next queues' size i x
     moves_up i x stands =
         let old = stands_as size (suc i) x q (q.first ∷ ids_in next rest) stands refl uncons in
         stands_from size i x rest (ids_in next rest) (omega (arith, old.0)) old.1 this_queue refl
 
-    first_stands : StandsAt next queues size 0 q.first
+    first_stands : IdStandsAt next queues size 0 q.first
     first_stands = record { within = some_here; is = ap (λ ids. get_or ids 0 0) uncons }
 
     -- the first id is one of the table
@@ -117,7 +117,7 @@ module _ (next : List ℕ) (queues : List Queue) (mask : ℕ) (linked : IsLinked
       once = λ s t i j x one other. both s t i j x (popped_at s i x one) (popped_at t j x other);
       ends = λ s i last. elim (eqb_tells s size) [
         | inl same ↦ end_here s i same.1 last
-        | inr other ↦ subst (λ (r : Queue). StandsAt next queues' s i r.last) (sym (other_queue s other.1))
+        | inr other ↦ subst (λ (r : Queue). IdStandsAt next queues' s i r.last) (sym (other_queue s other.1))
             (stays_at s i (queue_at queues s).last other.1 (linked.ends s i (last ∙ ap (λ (r : Queue). r.count) (other_queue s other.1))))
       ];
       bits = λ s lt. elim (eqb_tells s size) [
@@ -130,19 +130,19 @@ module _ (next : List ℕ) (queues : List Queue) (mask : ℕ) (linked : IsLinked
         one_less : (n : ℕ) → nat_lt 1 n ≡ nat_lt 0 (n - 1)
         one_less n = grind (arith, nat_tests)
 
-        both : (s t i j x : ℕ) → ((s ≡ size) × StandsAt next queues s (suc i) x) ⊎ ((s ≢ size) × StandsAt next queues s i x)
-            → ((t ≡ size) × StandsAt next queues t (suc j) x) ⊎ ((t ≢ size) × StandsAt next queues t j x) → (s ≡ t) × (i ≡ j)
+        both : (s t i j x : ℕ) → ((s ≡ size) × IdStandsAt next queues s (suc i) x) ⊎ ((s ≢ size) × IdStandsAt next queues s i x)
+            → ((t ≡ size) × IdStandsAt next queues t (suc j) x) ⊎ ((t ≢ size) × IdStandsAt next queues t j x) → (s ≡ t) × (i ≡ j)
         both s t i j x (inl one) (inl other) = let same = linked.once s t (suc i) (suc j) x one.1 other.1 in (same.0, omega (arith, same.1))
         both s t i j x (inl one) (inr other) = absurd (other.0 (sym (linked.once s t (suc i) j x one.1 other.1).0 ∙ one.0))
         both s t i j x (inr one) (inl other) = absurd (one.0 ((linked.once s t i (suc j) x one.1 other.1).0 ∙ other.0))
         both s t i j x (inr one) (inr other) = linked.once s t i j x one.1 other.1
 
-        end_here : (s i : ℕ) → s ≡ size → i + 1 ≡ (queue_at queues' s).count → StandsAt next queues' s i (queue_at queues' s).last
+        end_here : (s i : ℕ) → s ≡ size → i + 1 ≡ (queue_at queues' s).count → IdStandsAt next queues' s i (queue_at queues' s).last
         end_here s i same last =
             let queue : queue_at queues' s ≡ rest = ap (queue_at queues') same ∙ this_queue in
             let count : i + 1 ≡ q.count - 1 = last ∙ ap (λ (r : Queue). r.count) queue in
-            subst (λ (r : Queue). StandsAt next queues' s i r.last) (sym queue)
-            (subst (λ k. StandsAt next queues' k i q.last) (sym same) (moves_up i q.last (linked.ends size (suc i) (omega (arith, count, some_here)))))
+            subst (λ (r : Queue). IdStandsAt next queues' s i r.last) (sym queue)
+            (subst (λ k. IdStandsAt next queues' k i q.last) (sym same) (moves_up i q.last (linked.ends size (suc i) (omega (arith, count, some_here)))))
 
     popped : (first_id (held_by next queues).by_size ≡ Some q.first) × (without_first_id (held_by next queues).by_size
         ≡ set (held_by next queues).by_size size (ids_in next rest))

@@ -9,19 +9,19 @@ use Rattle.std.proofs.lemmas.Bool.Decides.{eqb_tells}
 use Rattle.std.proofs.lemmas.Grind.{get_or_default_zero}
 use Rattle.frontier_core.specs.declared.queue.Queue.{Queue}
 use Rattle.frontier_core.specs.declared.sizes.TheConstants.{SIZES}
-use Rattle.frontier_core.specs.Held.{Held, IsHeld, ids_of, pushed}
-use Rattle.frontier_core.specs.Chain.{chain, ids_in, held_by, queue_at, longer, end_before, bit_of, StandsAt, IsLinked}
+use Rattle.frontier_core.specs.Held.{HeldIds, IsHeld, ids_of, pushed}
+use Rattle.frontier_core.specs.Chain.{chain, ids_in, held_by, queue_at, longer, end_before, bit_of, IdStandsAt, IsLinked}
 use Rattle.frontier_core.proofs.Chains.{length-chain, ids_of_queue, chain_untouched, chain_longer, stands_as, stands_from, end_cases}
 use Rattle.frontier_core.proofs.Lists.{map-set}
 use Rattle.frontier_core.proofs.Pigeonhole as pigeonhole
 use Rattle.frontier_core.proofs.Empty.{nothing}
 
-module _ (next : List ℕ) (queues : List Queue) (mask : ℕ) (linked : IsLinked next queues mask) (held : Held) (view : held_by next queues ≡ held) (id size : ℕ) (in_range : id < held.capacity) (not_held : IsHeld held id → ⊥) (range : size < SIZES) where
+module _ (next : List ℕ) (queues : List Queue) (mask : ℕ) (linked : IsLinked next queues mask) (held : HeldIds) (view : held_by next queues ≡ held) (id size : ℕ) (in_range : id < held.capacity) (not_held : IsHeld held id → ⊥) (range : size < SIZES) where
   below : id < length next
-  below = subst (λ (h : Held). id < h.capacity) (sym view) in_range
+  below = subst (λ (h : HeldIds). id < h.capacity) (sym view) in_range
 
   free : IsHeld (held_by next queues) id → ⊥
-  free = subst (λ (h : Held). IsHeld h id → ⊥) (sym view) not_held
+  free = subst (λ (h : HeldIds). IsHeld h id → ⊥) (sym view) not_held
 
   abbrev q : Queue
   q = queue_at queues size
@@ -35,7 +35,7 @@ module _ (next : List ℕ) (queues : List Queue) (mask : ℕ) (linked : IsLinked
   abbrev queues' : List Queue
   queues' = set queues size (longer q id)
 
-  absent : (s i : ℕ) → StandsAt next queues s i id → ⊥
+  absent : (s i : ℕ) → IdStandsAt next queues s i id → ⊥
   absent s i stands =
       let read : get_or (ids_in next (queue_at queues s)) i id
       ≡ id = get_or_default_zero (ids_in next (queue_at queues s)) i id
@@ -44,7 +44,7 @@ module _ (next : List ℕ) (queues : List Queue) (mask : ℕ) (linked : IsLinked
       (i, omega (arith, length-chain next (queue_at queues s).first (queue_at queues s).count, stands.within), read) in
       free (s, subst (λ (ids : List ℕ). Contains ids id) (sym (ids_of_queue next queues s)) here)
 
-  last_stands : (n : ℕ) → q.count ≡ suc n → StandsAt next queues size n q.last
+  last_stands : (n : ℕ) → q.count ≡ suc n → IdStandsAt next queues size n q.last
   last_stands n is = linked.ends size n (omega arith)
 
   -- the end is an id of the table
@@ -72,7 +72,7 @@ module _ (next : List ℕ) (queues : List Queue) (mask : ℕ) (linked : IsLinked
       by zero is = rw is refl
       by (suc n) is =
           let more : suc n + 1 ≡ suc (suc n) = omega arith in
-          let stands : StandsAt next queues size n q.last = last_stands n is in
+          let stands : IdStandsAt next queues size n q.last = last_stands n is in
           let ends : get_or (chain next q.first (suc n)) n 0 ≡ q.last = ap (λ m. get_or (chain next q.first m) n 0) (sym is) ∙ stands.is in
           let only : ((k : ℕ) → k < n → get_or (chain next q.first (suc n)) k 0 ≢ q.last) = λ k lt same. absurd
           (omega (
@@ -96,14 +96,14 @@ module _ (next : List ℕ) (queues : List Queue) (mask : ℕ) (linked : IsLinked
   count_ids = length-chain next q.first q.count
 
   -- what stands in the queues behind the push
-  pushed_at : (t i x : ℕ) → StandsAt next' queues' t i x → StandsAt next queues t i x ⊎ ((t ≡ size) × (i ≡ q.count) × (x ≡ id))
+  pushed_at : (t i x : ℕ) → IdStandsAt next' queues' t i x → IdStandsAt next queues t i x ⊎ ((t ≡ size) × (i ≡ q.count) × (x ≡ id))
   pushed_at t i x stands = elim (eqb_tells t size) [
     | inl same ↦ here (stands_as t i x (longer q id) (ids_in next q ++ id ∷ []) stands (ap (queue_at queues') same.1 ∙ this_queue) grows) same.1
     | inr other ↦ let old = stands_as t i x (queue_at queues t) (ids_in next (queue_at queues t)) stands (other_queue t other.1) (others_stay t other.1) in
         inl (record { within = old.0; is = old.1 })
   ]
     where
-      here : (i < q.count + 1) × (get_or (ids_in next q ++ id ∷ []) i 0 ≡ x) → t ≡ size → StandsAt next queues t i x ⊎ ((t ≡ size) × (i ≡ q.count) × (x ≡ id))
+      here : (i < q.count + 1) × (get_or (ids_in next q ++ id ∷ []) i 0 ≡ x) → t ≡ size → IdStandsAt next queues t i x ⊎ ((t ≡ size) × (i ≡ q.count) × (x ≡ id))
       here now same = elim (cases_lt i q.count) [
         | inl before ↦ inl (stands_from t i x q (ids_in next q) before
             (sym (get_or_append_left (ids_in next q) (id ∷ []) 0 i (omega (arith, count_ids))) ∙ now.1) (ap (queue_at queues) same) refl)
@@ -113,30 +113,30 @@ module _ (next : List ℕ) (queues : List Queue) (mask : ℕ) (linked : IsLinked
       ]
 
   -- what stood there stands there still, and the id at the end
-  stays_at : (t i x : ℕ) → t ≢ size → StandsAt next queues t i x → StandsAt next' queues' t i x
+  stays_at : (t i x : ℕ) → t ≢ size → IdStandsAt next queues t i x → IdStandsAt next' queues' t i x
   stays_at t i x other stands = stands_from t i x (queue_at queues t) (ids_in next (queue_at queues t)) stands.within stands.is (other_queue t other)
       (others_stay t other)
 
-  new_stands : StandsAt next' queues' size q.count id
+  new_stands : IdStandsAt next' queues' size q.count id
   new_stands =
       let read : get_or (ids_in next q ++ id ∷ []) q.count 0 ≡ id =
       ap (λ k. get_or (ids_in next q ++ id ∷ []) k 0) (sym count_ids) ∙ get_or-append_seam (ids_in next q) id [] 0 in
       stands_from size q.count id (longer q id) (ids_in next q ++ id ∷ []) (omega arith) read this_queue grows
 
-  below_after : (s i x : ℕ) → StandsAt next' queues' s i x → x < length next'
+  below_after : (s i x : ℕ) → IdStandsAt next' queues' s i x → x < length next'
   below_after s i x stands = elim (pushed_at s i x stands) [
     | inl old ↦ omega (arith, length-set next end id, linked.below s i x old)
     | inr new ↦ omega (arith, length-set next end id, new.2, below)
   ]
 
-  once_after : (s t i j x : ℕ) → StandsAt next' queues' s i x → StandsAt next' queues' t j x → (s ≡ t) × (i ≡ j)
+  once_after : (s t i j x : ℕ) → IdStandsAt next' queues' s i x → IdStandsAt next' queues' t j x → (s ≡ t) × (i ≡ j)
   once_after s t i j x one other = both (pushed_at s i x one) (pushed_at t j x other)
     where
-      both : StandsAt next queues s i x ⊎ ((s ≡ size) × (i ≡ q.count) × (x ≡ id)) → StandsAt next queues t j x ⊎ ((t ≡ size) × (j ≡ q.count) × (x ≡ id))
+      both : IdStandsAt next queues s i x ⊎ ((s ≡ size) × (i ≡ q.count) × (x ≡ id)) → IdStandsAt next queues t j x ⊎ ((t ≡ size) × (j ≡ q.count) × (x ≡ id))
           → (s ≡ t) × (i ≡ j)
       both (inl one) (inl other) = linked.once s t i j x one other
-      both (inl one) (inr other) = absurd (absent s i (subst (StandsAt next queues s i) other.2 one))
-      both (inr one) (inl other) = absurd (absent t j (subst (StandsAt next queues t j) one.2 other))
+      both (inl one) (inr other) = absurd (absent s i (subst (IdStandsAt next queues s i) other.2 one))
+      both (inr one) (inl other) = absurd (absent t j (subst (IdStandsAt next queues t j) one.2 other))
       both (inr one) (inr other) = (one.0 ∙ sym other.0, one.1 ∙ sym other.1)
 
   pub still_linked : (mask' : ℕ) → bit_at mask' size ≡ 1 → ((s : ℕ) → s ≢ size → bit_at mask' s ≡ bit_at mask s) → IsLinked next' queues' mask'
@@ -147,7 +147,7 @@ module _ (next : List ℕ) (queues : List Queue) (mask : ℕ) (linked : IsLinked
     once = once_after;
     ends = λ s i is. elim (eqb_tells s size) [
       | inl same ↦ end_here s i same.1 is
-      | inr other ↦ subst (λ (r : Queue). StandsAt next' queues' s i r.last) (sym (other_queue s other.1))
+      | inr other ↦ subst (λ (r : Queue). IdStandsAt next' queues' s i r.last) (sym (other_queue s other.1))
           (stays_at s i (queue_at queues s).last other.1 (linked.ends s i (is ∙ ap (λ (r : Queue). r.count) (other_queue s other.1))))
     ];
     bits = λ s lt. elim (eqb_tells s size) [
@@ -156,13 +156,13 @@ module _ (next : List ℕ) (queues : List Queue) (mask : ℕ) (linked : IsLinked
     ];
   }
     where
-      end_here : (s i : ℕ) → s ≡ size → i + 1 ≡ (queue_at queues' s).count → StandsAt next' queues' s i (queue_at queues' s).last
+      end_here : (s i : ℕ) → s ≡ size → i + 1 ≡ (queue_at queues' s).count → IdStandsAt next' queues' s i (queue_at queues' s).last
       end_here s i same is =
           let queue : queue_at queues' s ≡ longer q id = ap (queue_at queues') same ∙ this_queue in
           let count : i + 1 ≡ q.count + 1 = is ∙ ap (λ (r : Queue). r.count) queue in
           let place : q.count ≡ i = omega arith in
-          subst (λ (r : Queue). StandsAt next' queues' s i r.last) (sym queue)
-          (subst (λ k. StandsAt next' queues' k i id) (sym same) (subst (λ k. StandsAt next' queues' size k id) place new_stands))
+          subst (λ (r : Queue). IdStandsAt next' queues' s i r.last) (sym queue)
+          (subst (λ k. IdStandsAt next' queues' k i id) (sym same) (subst (λ k. IdStandsAt next' queues' size k id) place new_stands))
 
       some : (s : ℕ) → s ≡ size → bit_of (queue_at queues' s) ≡ 1
       some s same = ap bit_of (ap (queue_at queues') same ∙ this_queue) ∙ ap (λ b. cond b 1 0) (lt-ltb 0 (q.count + 1) (omega arith))
@@ -172,7 +172,7 @@ module _ (next : List ℕ) (queues : List Queue) (mask : ℕ) (linked : IsLinked
   counts =
       let ids : List ℕ = ids_in next' (longer q id) in
       let count : length ids ≡ q.count + 1 = length-chain next' (longer q id).first (q.count + 1) in
-      let stands : ((i : ℕ) → i < length ids → StandsAt next' queues' size i (get_or ids i 0)) =
+      let stands : ((i : ℕ) → i < length ids → IdStandsAt next' queues' size i (get_or ids i 0)) =
       λ i lt. stands_from size i (get_or ids i 0) (longer q id) ids (omega arith) refl this_queue refl in
       omega (
         arith,
@@ -180,17 +180,18 @@ module _ (next : List ℕ) (queues : List Queue) (mask : ℕ) (linked : IsLinked
         length-set next end id,
         linked.room,
         pigeonhole.length-le ids (length next')
-            (λ i j p r same. (once_after size size i j (get_or ids j 0) (subst (StandsAt next' queues' size i) same (stands i p)) (stands j r)).1)
+            (λ i j p r same. (once_after size size i j (get_or ids j 0) (subst (IdStandsAt next' queues' size i) same (stands i p)) (stands j r)).1)
             (λ i lt. below_after size i (get_or ids i 0) (stands i lt)),
       )
 
   pub has_size : size < length held.by_size
   has_size =
-      let count : length held.by_size ≡ length queues = ap (λ (h : Held). length h.by_size) (sym view) ∙ length-map queues (ids_in next) in
+      let count : length held.by_size ≡ length queues = ap (λ (h : HeldIds). length h.by_size) (sym view) ∙ length-map queues (ids_in next) in
       omega (arith, count, linked.sizes)
 
   -- the lists behind the push
   pub held_after : held_by next' queues' ≡ pushed held id size
   held_after = ap₂ (λ (c : ℕ) (b : List (List ℕ)). record { capacity = c; by_size = b }) (length-set next end id)
       (map-set (ids_in next') (ids_in next) nothing queues size (longer q id) (ids_of (held_by next queues) size ++ id ∷ [])
-      (grows ∙ ap (λ xs. xs ++ id ∷ []) (sym (ids_of_queue next queues size))) (λ t lt other. others_stay t other)) ∙ ap (λ (h : Held). pushed h id size) view
+      (grows ∙ ap (λ xs. xs ++ id ∷ []) (sym (ids_of_queue next queues size))) (λ t lt other. others_stay t other))
+      ∙ ap (λ (h : HeldIds). pushed h id size) view

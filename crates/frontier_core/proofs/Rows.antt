@@ -1,11 +1,11 @@
 -- Worked rows of the definitions: what is held after some pushes and pops.
 use Rattle.std.proofs.Common.{◌≡◌, refl, [], ◌∷◌, Some, None}
-use Rattle.frontier_core.specs.Held.{Held, empty, pushed, ids_of, first_of_least, without_first_of_least}
+use Rattle.frontier_core.specs.Held.{HeldIds, empty, pushed, ids_of, first_of_least, without_first_of_least}
 use Rattle.frontier_core.specs.Order.{sized}
 use Rattle.frontier_core.specs.Run.{run, Push, Pop, all_held}
 
 -- two of size 3, one of size 0 and one of the greatest size
-abbrev three : Held
+abbrev three : HeldIds
 three = pushed (pushed (pushed (pushed (empty 8) 5 3) 2 3) 7 0) 1 64
 
 in_order : ids_of three 3 ≡ 5 ∷ 2 ∷ []

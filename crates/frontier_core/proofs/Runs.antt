@@ -7,7 +7,7 @@ use Rattle.std.proofs.lemmas.Bool.{cases_lt}
 use Rattle.frontier_core.specs.declared.sizes.TheConstants.{SIZES}
 use Rattle.frontier_core.specs.Held.{ids_of, empty, pushed, first_of_least, without_first_of_least, first_id, without_first_id}
 use Rattle.frontier_core.specs.Order.{SizedId, sized, of_size}
-use Rattle.frontier_core.specs.Run.{Event, Push, Pop, Run, first_place, after_pop, after, run, SizesFit, listed_from, all_held}
+use Rattle.frontier_core.specs.Run.{Event, Push, Pop, Run, first_place, after_pop, after_event, run, SizesFit, listed_from, all_held}
 use Rattle.frontier_core.proofs.Orders.{of_size-append, ids_of_pushed, ids_of_popped, FoundAt, found_where}
 
 pub record Kept (r : Run) : Type 0 where
@@ -53,7 +53,7 @@ listed_none from [] is = refl
 listed_none from ((x ∷ xs) ∷ greater) is = cc
 listed_none from ([] ∷ greater) is = listed_none (suc from) greater is
 
-kept_push : (r : Run) (id size : ℕ) → size < SIZES → Kept r → Kept (after r (Push id size))
+kept_push : (r : Run) (id size : ℕ) → size < SIZES → Kept r → Kept (after_event r (Push id size))
 kept_push r id size fits kept =
     let within : size < length r.held.by_size = omega (arith, kept.sizes, fits) in
     let pair = sized id size in
@@ -70,7 +70,7 @@ kept_push r id size fits kept =
           ∙ ap (λ xs. of_size s r.came_out ++ xs) (sym (ids_of_pushed r.held id size s within));
     }
 
-kept_pop : (r : Run) → Kept r → Kept (after r Pop)
+kept_pop : (r : Run) → Kept r → Kept (after_event r Pop)
 kept_pop r kept = elim (found_where r.held.by_size) [
   | inl none ↦ subst (λ o. Kept (after_pop r o)) (sym none.none) kept
   | inr found ↦ subst (λ o. Kept (after_pop r o)) (sym found.first) (taken found)
@@ -90,10 +90,10 @@ kept_pop r kept = elim (found_where r.held.by_size) [
               ∙ ap (λ xs. xs ++ ids_of new s) (sym (of_size-append s r.came_out (pair ∷ [])));
         }
 
-kept_all : (events : List Event) (r : Run) → SizesFit events → Kept r → Kept (fold after r events)
+kept_all : (events : List Event) (r : Run) → SizesFit events → Kept r → Kept (fold after_event r events)
 kept_all [] r fit kept = kept
-kept_all (Push id size ∷ events) r fit kept = kept_all events (after r (Push id size)) fit.1 (kept_push r id size fit.0 kept)
-kept_all (Pop ∷ events) r fit kept = kept_all events (after r Pop) fit (kept_pop r kept)
+kept_all (Push id size ∷ events) r fit kept = kept_all events (after_event r (Push id size)) fit.1 (kept_push r id size fit.0 kept)
+kept_all (Pop ∷ events) r fit kept = kept_all events (after_event r Pop) fit (kept_pop r kept)
 
 -- the lists of an empty frontier
 none_listed : (from n : ℕ) → listed_from from (replicate n []) ≡ []

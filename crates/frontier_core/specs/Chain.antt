@@ -3,7 +3,7 @@ use Rattle.std.specs.Prelude.{◌≡◌, ℕ, zero, suc, ◌+◌, ◌-◌, ◌<�
 use Rattle.std.specs.Int.{bit_at}
 use Rattle.frontier_core.specs.declared.queue.Queue.{Queue}
 use Rattle.frontier_core.specs.declared.sizes.TheConstants.{SIZES}
-use Rattle.frontier_core.specs.Held.{Held}
+use Rattle.frontier_core.specs.Held.{HeldIds}
 
 -- so many ids from one on, each the next of the one before
 abbrev pub chain : List ℕ → ℕ → ℕ → List ℕ
@@ -14,7 +14,7 @@ chain next first (suc more) = first ∷ chain next (slice_index next first) more
 abbrev pub ids_in : List ℕ → Queue → List ℕ
 ids_in next queue = chain next queue.first queue.count
 
-abbrev pub held_by : List ℕ → List Queue → Held
+abbrev pub held_by : List ℕ → List Queue → HeldIds
 held_by next queues = record { capacity = length next; by_size = map (ids_in next) queues }
 
 -- the queue of a size; behind the last size an empty one
@@ -38,7 +38,7 @@ abbrev pub bit_of : Queue → ℕ
 bit_of q = if nat_lt 0 q.count then 1 else 0
 
 -- at place i of the ids of size s stands this id
-pub record StandsAt (next : List ℕ) (queues : List Queue) (s i id : ℕ) : Type 0 where
+pub record IdStandsAt (next : List ℕ) (queues : List Queue) (s i id : ℕ) : Type 0 where
   pub within : i < (queue_at queues s).count
   pub is : slice_index (ids_in next (queue_at queues s)) i ≡ id
 
@@ -46,7 +46,7 @@ pub record StandsAt (next : List ℕ) (queues : List Queue) (s i id : ℕ) : Typ
 pub record IsLinked (next : List ℕ) (queues : List Queue) (mask : ℕ) : Type 0 where
   pub room : length next < 2 ^ 32
   pub sizes : length queues ≡ SIZES
-  pub below : (s i id : ℕ) → StandsAt next queues s i id → id < length next
-  pub once : (s t i j id : ℕ) → StandsAt next queues s i id → StandsAt next queues t j id → (s ≡ t) × (i ≡ j)
-  pub ends : (s i : ℕ) → i + 1 ≡ (queue_at queues s).count → StandsAt next queues s i (queue_at queues s).last
+  pub below : (s i id : ℕ) → IdStandsAt next queues s i id → id < length next
+  pub once : (s t i j id : ℕ) → IdStandsAt next queues s i id → IdStandsAt next queues t j id → (s ≡ t) × (i ≡ j)
+  pub ends : (s i : ℕ) → i + 1 ≡ (queue_at queues s).count → IdStandsAt next queues s i (queue_at queues s).last
   pub bits : (s : ℕ) → s < 128 → bit_at mask s ≡ bit_of (queue_at queues s)

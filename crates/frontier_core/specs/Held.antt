@@ -3,24 +3,24 @@ use Rattle.std.specs.Prelude.{ℕ, List, [], ◌∷◌, ◌++◌, Option, Some, 
 use Rattle.frontier_core.specs.declared.sizes.TheConstants.{SIZES}
 
 -- How many ids there are room for, and what is held: at place s of `by_size` stands the list of the ids held of size s, in the order in which they were pushed.
-pub record Held : Type 0 where
+pub record HeldIds : Type 0 where
   pub capacity : ℕ
   pub by_size : List (List ℕ)
 
 -- the ids held of one size, in the order in which they were pushed
-abbrev pub ids_of : Held → ℕ → List ℕ
+abbrev pub ids_of : HeldIds → ℕ → List ℕ
 ids_of held size = slice_index_or held.by_size size []
 
 -- the id is held, of some size
-abbrev pub IsHeld : Held → ℕ → Type 0
+abbrev pub IsHeld : HeldIds → ℕ → Type 0
 IsHeld held id = (size : ℕ) × Contains (ids_of held size) id
 
 -- no id of any size
-abbrev pub empty : ℕ → Held
+abbrev pub empty : ℕ → HeldIds
 empty capacity = record { capacity = capacity; by_size = replicate SIZES [] }
 
 -- the list of one size has the id at its end, and the others stay
-abbrev pub pushed : Held → ℕ → ℕ → Held
+abbrev pub pushed : HeldIds → ℕ → ℕ → HeldIds
 pushed held id size = record held { by_size = slice_set held.by_size size (ids_of held size ++ id ∷ []) }
 
 -- the first id of the first list that has one: of the least size, the one that was pushed first
@@ -35,8 +35,8 @@ without_first_id [] = []
 without_first_id ([] ∷ greater) = [] ∷ without_first_id greater
 without_first_id ((id ∷ ids) ∷ greater) = ids ∷ greater
 
-abbrev pub first_of_least : Held → Option ℕ
+abbrev pub first_of_least : HeldIds → Option ℕ
 first_of_least held = first_id held.by_size
 
-abbrev pub without_first_of_least : Held → Held
+abbrev pub without_first_of_least : HeldIds → HeldIds
 without_first_of_least held = record held { by_size = without_first_id held.by_size }

@@ -22,9 +22,9 @@ pub struct Frontier {
 
 impl Model for Frontier {
     ghost use Rattle.std.specs.Prelude.{map, vec_len};
-    ghost use Rattle.frontier_core.specs.Held.{Held};
+    ghost use Rattle.frontier_core.specs.Held.{HeldIds};
 
-    ghost Value = { Held };
+    ghost Value = { HeldIds };
 
     ghost use Rattle.frontier_core.specs.Chain.{held_by, IsLinked};
 

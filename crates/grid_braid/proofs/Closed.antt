@@ -10,7 +10,7 @@ use Rattle.colour_rows.specs.Walk.{walk}
 use Rattle.grid_core.proofs.Ends.{has_ends}
 use Rattle.colour_rows.proofs.Walks.{Undoes, undo_there, undo_back, walk_stays, fold_keeps}
 use Rattle.grid_braid.specs.Strands.{is_strand, strands_between}
-use Rattle.grid_braid.specs.Sweep.{moved}
+use Rattle.grid_braid.specs.Sweep.{moved_colour}
 use Rattle.grid_braid.proofs.Ranges.{all_passing, reversed_all}
 use Rattle.grid_braid.proofs.Rows.{has_row, row_moves, ends_left, ends_right, moved_left, moved_right}
 use Rattle.grid_braid.proofs.Turns.{turn, turn_respects, colour_below}
@@ -49,7 +49,7 @@ between_below t d grid e e_below r lt =
     all_passing (is_strand d r) (below t) e ((ends d r).low + 1) ((ends d r).high - ((ends d r).low + 1)) (λ c least most at. e_below c (omega arith))
 
 pub moved_below : (t : Table) → IsQuandle t → (d : Diagram) → IsGrid d → (e : ℕ → ℕ) → ((c : ℕ) → c < size d → e c < t.order) → (r : ℕ) → r < size d
-    → moved t d e r < t.order
+    → moved_colour t d e r < t.order
 moved_below t q d grid e e_below r lt =
     let zs = map e (strands_between d r) in
     let all = between_below t d grid e e_below r lt in
@@ -63,7 +63,7 @@ moved_below t q d grid e e_below r lt =
 
 -- said of the colours of the strands
 strands_close : (t : Table) → IsQuandle t → (d : Diagram) → IsGrid d → (e : ℕ → ℕ) → ((c : ℕ) → c < size d → e c < t.order) → (r : ℕ) → r < size d
-    → fold (back t) (e (ends d r).low) (map e (strands_between d r)) ≡ e (ends d r).high → moved t d e r ≡ e (column_of Cross d r)
+    → fold (back t) (e (ends d r).low) (map e (strands_between d r)) ≡ e (ends d r).high → moved_colour t d e r ≡ e (column_of Cross d r)
 strands_close t q d grid e e_below r lt closes =
     let zs = map e (strands_between d r) in
     let all = between_below t d grid e e_below r lt in
@@ -82,7 +82,7 @@ strands_close t q d grid e e_below r lt closes =
     ]
 
 strands_closed : (t : Table) → IsQuandle t → (d : Diagram) → IsGrid d → (e : ℕ → ℕ) → ((c : ℕ) → c < size d → e c < t.order) → (r : ℕ) → r < size d
-    → moved t d e r ≡ e (column_of Cross d r) → fold (back t) (e (ends d r).low) (map e (strands_between d r)) ≡ e (ends d r).high
+    → moved_colour t d e r ≡ e (column_of Cross d r) → fold (back t) (e (ends d r).low) (map e (strands_between d r)) ≡ e (ends d r).high
 strands_closed t q d grid e e_below r lt arrives =
     let zs = map e (strands_between d r) in
     let all = between_below t d grid e e_below r lt in
@@ -102,7 +102,7 @@ strands_closed t q d grid e e_below r lt arrives =
 
 -- and of the walk
 pub row_arrives : (t : Table) → IsQuandle t → (d : Diagram) → IsGrid d → (f : List ℕ) → All (below t) f → (e : ℕ → ℕ) → Turned t d f e → (r : ℕ)
-    → r < size d → walk t d f r ≡ get_or f (ends d r).high 0 → moved t d e r ≡ e (column_of Cross d r)
+    → r < size d → walk t d f r ≡ get_or f (ends d r).high 0 → moved_colour t d e r ≡ e (column_of Cross d r)
 row_arrives t q d grid f f_below e turned r lt closes =
     let hi = (ends d r).high in
     let row = has_ends d grid r lt in
@@ -110,7 +110,7 @@ row_arrives t q d grid f f_below e turned r lt closes =
     (sym (walk_turned t q d grid f f_below e turned r lt) ∙ (ap (turn t d f hi) closes ∙ sym (turned hi row.within)))
 
 pub row_closes : (t : Table) → IsQuandle t → (d : Diagram) → IsGrid d → (f : List ℕ) → size d ≤ length f → All (below t) f → (e : ℕ → ℕ)
-    → Turned t d f e → (r : ℕ) → r < size d → moved t d e r ≡ e (column_of Cross d r) → walk t d f r ≡ get_or f (ends d r).high 0
+    → Turned t d f e → (r : ℕ) → r < size d → moved_colour t d e r ≡ e (column_of Cross d r) → walk t d f r ≡ get_or f (ends d r).high 0
 row_closes t q d grid f long f_below e turned r lt arrives =
     let hi = (ends d r).high in
     let row = has_ends d grid r lt in

@@ -13,8 +13,8 @@ use Rattle.quandle_core.specs.Quandle.{Table}
 use Rattle.braid_core.specs.Braid.{IsLetter}
 use Rattle.braid_core.specs.Action.{letter_action, action}
 use Rattle.grid_braid.specs.Strands.{is_strand, strands_at, down_columns}
-use Rattle.grid_braid.specs.Word.{row_letters, letters_below, word, IsWord}
-use Rattle.grid_braid.specs.Sweep.{moved}
+use Rattle.grid_braid.specs.Word.{row_letters, letters_below, word_of_diagram, IsWord}
+use Rattle.grid_braid.specs.Sweep.{moved_colour}
 use Rattle.grid_braid.proofs.Ranges.{filter_range, passing_all, passing_same}
 use Rattle.grid_braid.proofs.Heights.{runs_lowest, runs_highest, above_cross}
 use Rattle.grid_braid.proofs.Rows.{row_acts, row_counts, row_word}
@@ -54,7 +54,7 @@ led t d at n rows (suc h) le =
 
 -- each strand arrives in the colour of its new column
 abbrev pub Arrives : Table → Diagram → (ℕ → ℕ) → Type 0
-Arrives t d e = (r : ℕ) → r < size d → moved t d e r ≡ e (column_of Cross d r)
+Arrives t d e = (r : ℕ) → r < size d → moved_colour t d e r ≡ e (column_of Cross d r)
 
 pub followed : (t : Table) (d : Diagram) → IsGrid d → (e : ℕ → ℕ) → Arrives t d e → (h : ℕ) → h ≤ size d
     → action t (letters_below d h) (map e (strands_at d 0)) ≡ map e (strands_at d h)
@@ -77,7 +77,7 @@ letters_fit d grid (suc h) le =
     (All-append (IsLetter m) (letters_below d h) (row_letters d h) (letters_fit d grid h (omega arith))
     (row_word d h m grid (omega arith) (strand_count d grid h (omega arith))))
 
-pub word_fits : (d : Diagram) → IsGrid d → IsWord (word d)
+pub word_fits : (d : Diagram) → IsGrid d → IsWord (word_of_diagram d)
 word_fits d grid = letters_fit d grid (size d) (omega arith)
 
 -- the strand of a column is there directly above the column's X

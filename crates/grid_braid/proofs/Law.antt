@@ -17,7 +17,7 @@ use Rattle.colour_rows.specs.Colouring.{IsColouring}
 use Rattle.braid_core.specs.Action.{action}
 use Rattle.braid_core.specs.FixedPoints.{IsFixedPoint}
 use Rattle.grid_braid.specs.Strands.{strands_at, down_columns}
-use Rattle.grid_braid.specs.Word.{letters_below, word}
+use Rattle.grid_braid.specs.Word.{letters_below, word_of_diagram}
 use Rattle.grid_braid.specs.Feet.{strand_colours, at_feet}
 use Rattle.grid_braid.specs.Sweep.{downs_before, laid, swept}
 use Rattle.grid_braid.specs.Columns.{column_colours}
@@ -54,7 +54,7 @@ strands_follow t q d grid f c h le =
     let e = read (strand_colours t d f) in
     sym (ap (λ (cs : List ℕ). action t (letters_below d h) (map e cs)) (sym (lowest_strands d)) ∙ followed t d grid e (colouring_arrives t q d grid f c) h le)
 
-pub feet_fixed : (t : Table) → IsQuandle t → (d : Diagram) → IsGrid d → (f : List ℕ) → IsColouring t d f → IsFixedPoint t (word d) (at_feet t d f)
+pub feet_fixed : (t : Table) → IsQuandle t → (d : Diagram) → IsGrid d → (f : List ℕ) → IsColouring t d f → IsFixedPoint t (word_of_diagram d) (at_feet t d f)
 feet_fixed t q d grid f c = record {
   tuple = feet_colours t q d f c.colours_are;
   fixed = sym (strands_follow t q d grid f c (size d) (omega arith)) ∙ ap (map (read (strand_colours t d f))) (highest_strands d grid);
@@ -126,9 +126,9 @@ abbrev pub arrived : Table → Diagram → List ℕ → List ℕ
 arrived t d tuple = swept t d (laid d tuple) (size d)
 
 pub feet_acted : (t : Table) (d : Diagram) → IsGrid d → (tuple : List ℕ) → length tuple ≡ length (down_columns d)
-    → action t (word d).letters tuple ≡ map (read (arrived t d tuple)) (down_columns d)
+    → action t (word_of_diagram d).letters tuple ≡ map (read (arrived t d tuple)) (down_columns d)
 feet_acted t d grid tuple long =
-    ap (action t (word d).letters) (sym (laid_read d tuple long))
+    ap (action t (word_of_diagram d).letters) (sym (laid_read d tuple long))
     ∙ feet_return t d grid (laid d tuple) (length-map-range_with_len (λ k. cond (is_up d k) 0 (get_or tuple (length (downs_before d k)) 0)) 0 (size d))
 
 -- where these are the feet again, the columns have a colouring with them
@@ -151,7 +151,7 @@ feet_coloured t q d grid tuple at back =
       ap (λ (zs : List ℕ). map (read zs) (down_columns d)) is ∙ back,
     )
 
-pub feet_bijection : (t : Table) → IsQuandle t → (d : Diagram) → IsGrid d → IsBijection (IsColouring t d) (IsFixedPoint t (word d)) (at_feet t d)
+pub feet_bijection : (t : Table) → IsQuandle t → (d : Diagram) → IsGrid d → IsBijection (IsColouring t d) (IsFixedPoint t (word_of_diagram d)) (at_feet t d)
 feet_bijection t q d grid = record {
   into = feet_fixed t q d grid;
   onto = λ tuple fixed.

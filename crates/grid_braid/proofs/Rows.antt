@@ -15,7 +15,7 @@ use Rattle.braid_core.specs.Braid.{IsLetter}
 use Rattle.braid_core.specs.Action.{action}
 use Rattle.grid_braid.specs.Strands.{is_strand, strands_within, strands_at, strands_ahead, strands_between}
 use Rattle.grid_braid.specs.Word.{leftward, rightward, row_letters}
-use Rattle.grid_braid.specs.Sweep.{moved}
+use Rattle.grid_braid.specs.Sweep.{moved_colour}
 use Rattle.grid_braid.proofs.Ranges.{filter_range, map_range, passing_cut, passing_first, passing_parts}
 use Rattle.grid_braid.proofs.Heights.{at_ring, above_ring, at_cross, above_cross, runs_on}
 use Rattle.grid_braid.proofs.Moved.{leftward_acts, rightward_acts, leftward_letters, rightward_letters}
@@ -195,14 +195,14 @@ map_first e left between right c = map-append e left (c ∷ (between ++ right)) 
 
 -- the strand's new colour
 pub moved_left : (t : Table) (d : Diagram) (e : ℕ → ℕ) (r : ℕ) → column_of Cross d r < column_of Ring d r
-    → moved t d e r ≡ fold (over t) (e (column_of Ring d r)) (reverse (map e (strands_between d r)))
+    → moved_colour t d e r ≡ fold (over t) (e (column_of Ring d r)) (reverse (map e (strands_between d r)))
 moved_left t d e r lt =
     ap (λ (b : Bool). cond b (fold (back t) (e (column_of Ring d r)) (map e (strands_between d r)))
     (fold (over t) (e (column_of Ring d r)) (reverse (map e (strands_between d r)))))
     (le-ltb (column_of Ring d r) (column_of Cross d r) (omega arith))
 
 pub moved_right : (t : Table) (d : Diagram) (e : ℕ → ℕ) (r : ℕ) → column_of Ring d r < column_of Cross d r
-    → moved t d e r ≡ fold (back t) (e (column_of Ring d r)) (map e (strands_between d r))
+    → moved_colour t d e r ≡ fold (back t) (e (column_of Ring d r)) (map e (strands_between d r))
 moved_right t d e r lt =
     ap (λ (b : Bool). cond b (fold (back t) (e (column_of Ring d r)) (map e (strands_between d r)))
     (fold (over t) (e (column_of Ring d r)) (reverse (map e (strands_between d r)))))
@@ -224,7 +224,7 @@ letters_right d r m =
     (lt-ltb (column_of Ring d r) (column_of Cross d r) m.ordered)
     ∙ ap (λ (us : List ℕ). rightward (length us) (length (strands_between d r))) m.ahead
 
-acts_left : (t : Table) (d : Diagram) (r : ℕ) (e f : ℕ → ℕ) → MovesLeft d r → SameParts d r e f → f (column_of Cross d r) ≡ moved t d e r
+acts_left : (t : Table) (d : Diagram) (r : ℕ) (e f : ℕ → ℕ) → MovesLeft d r → SameParts d r e f → f (column_of Cross d r) ≡ moved_colour t d e r
     → action t (row_letters d r) (map e (strands_at d r)) ≡ map f (strands_at d (r + 1))
 acts_left t d r e f m same is =
     let left = left_part d r in
@@ -243,7 +243,7 @@ acts_left t d r e f m same is =
     ∙ (ap (λ (zs : List ℕ). map f left ++ f a ∷ (map f between ++ zs)) same.right_same
     ∙ (sym (map_first f left between right a) ∙ sym (ap (map f) m.above))))))
 
-acts_right : (t : Table) (d : Diagram) (r : ℕ) (e f : ℕ → ℕ) → MovesRight d r → SameParts d r e f → f (column_of Cross d r) ≡ moved t d e r
+acts_right : (t : Table) (d : Diagram) (r : ℕ) (e f : ℕ → ℕ) → MovesRight d r → SameParts d r e f → f (column_of Cross d r) ≡ moved_colour t d e r
     → action t (row_letters d r) (map e (strands_at d r)) ≡ map f (strands_at d (r + 1))
 acts_right t d r e f m same is =
     let left = left_part d r in
@@ -263,7 +263,7 @@ acts_right t d r e f m same is =
     ∙ (sym (map_moved f left between right a) ∙ sym (ap (map f) m.above))))))
 
 -- the letters of a row, on the colours of the strands below it, give those above it
-pub row_acts : (t : Table) (d : Diagram) (r : ℕ) (e f : ℕ → ℕ) → IsGrid d → r < size d → Stay d r e f → f (column_of Cross d r) ≡ moved t d e r
+pub row_acts : (t : Table) (d : Diagram) (r : ℕ) (e f : ℕ → ℕ) → IsGrid d → r < size d → Stay d r e f → f (column_of Cross d r) ≡ moved_colour t d e r
     → action t (row_letters d r) (map e (strands_at d r)) ≡ map f (strands_at d (r + 1))
 row_acts t d r e f grid lt stay is =
     let same = same_parts d r e f grid lt stay in

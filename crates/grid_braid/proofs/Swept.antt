@@ -15,8 +15,8 @@ use Rattle.quandle_core.specs.Colours.{AreColours}
 use Rattle.braid_core.specs.Action.{action}
 use Rattle.grid_core.proofs.Ends.{has_ends}
 use Rattle.grid_braid.specs.Strands.{is_strand, strands_at, down_columns}
-use Rattle.grid_braid.specs.Word.{letters_below, word}
-use Rattle.grid_braid.specs.Sweep.{moved, swept_row, swept}
+use Rattle.grid_braid.specs.Word.{letters_below, word_of_diagram}
+use Rattle.grid_braid.specs.Sweep.{moved_colour, swept_row, swept}
 use Rattle.grid_braid.proofs.Ranges.{map_range, passing_same}
 use Rattle.grid_braid.proofs.Heights.{runs_up}
 use Rattle.grid_braid.proofs.Rows.{has_row, row_acts}
@@ -36,8 +36,8 @@ swept_stays t q d grid f at (suc h) le =
     let before = swept_stays t q d grid f at h (omega arith) in
     let a = column_of Cross d h in
     subst (AreColours (size d) t.order) (sym (swept_more t d f h) ∙ ap (swept t d f) (let e : h + 1 ≡ suc h = omega arith in e)) (
-      length-set ys a (moved t d (λ c. get_or ys c 0) h) ∙ before.0,
-      All-set (λ y. y < t.order) ys a (moved t d (λ c. get_or ys c 0) h)
+      length-set ys a (moved_colour t d (λ c. get_or ys c 0) h) ∙ before.0,
+      All-set (λ y. y < t.order) ys a (moved_colour t d (λ c. get_or ys c 0) h)
           (moved_below t q d grid (λ c. get_or ys c 0) (λ c lt. All-get_or (λ y. y < t.order) ys c 0 (omega (arith, before.0)) before.1) h
           (omega arith)) before.1,
     )
@@ -46,19 +46,19 @@ swept_length : (t : Table) (d : Diagram) (f : List ℕ) (h : ℕ) → length (sw
 swept_length t d f zero = refl
 swept_length t d f (suc h) =
     ap length (ap (swept t d f) (let e : suc h ≡ h + 1 = omega arith in e) ∙ swept_more t d f h)
-    ∙ (length-set (swept t d f h) (column_of Cross d h) (moved t d (λ c. get_or (swept t d f h) c 0) h) ∙ swept_length t d f h)
+    ∙ (length-set (swept t d f h) (column_of Cross d h) (moved_colour t d (λ c. get_or (swept t d f h) c 0) h) ∙ swept_length t d f h)
 
 -- a row writes the colour of its X's column alone
 swept_here : (t : Table) (d : Diagram) (f : List ℕ) (r : ℕ) → column_of Cross d r < length f
-    → get_or (swept t d f (r + 1)) (column_of Cross d r) 0 ≡ moved t d (λ c. get_or (swept t d f r) c 0) r
+    → get_or (swept t d f (r + 1)) (column_of Cross d r) 0 ≡ moved_colour t d (λ c. get_or (swept t d f r) c 0) r
 swept_here t d f r lt =
     ap (λ (ys : List ℕ). get_or ys (column_of Cross d r) 0) (swept_more t d f r)
-    ∙ get_or-set_same (swept t d f r) (column_of Cross d r) (moved t d (λ c. get_or (swept t d f r) c 0) r) 0 (omega (arith, swept_length t d f r))
+    ∙ get_or-set_same (swept t d f r) (column_of Cross d r) (moved_colour t d (λ c. get_or (swept t d f r) c 0) r) 0 (omega (arith, swept_length t d f r))
 
 swept_other : (t : Table) (d : Diagram) (f : List ℕ) (r c : ℕ) → c ≢ column_of Cross d r → get_or (swept t d f (r + 1)) c 0 ≡ get_or (swept t d f r) c 0
 swept_other t d f r c other =
     ap (λ (ys : List ℕ). get_or ys c 0) (swept_more t d f r)
-    ∙ get_or-set_other (swept t d f r) (column_of Cross d r) c (moved t d (λ k. get_or (swept t d f r) k 0) r) 0 other
+    ∙ get_or-set_other (swept t d f r) (column_of Cross d r) c (moved_colour t d (λ k. get_or (swept t d f r) k 0) r) 0 other
 
 -- a column keeps its colour up to the row of its X, and from there on
 swept_before : (t : Table) (d : Diagram) → IsGrid d → (f : List ℕ) (c : ℕ) → c < size d → (h : ℕ) → h ≤ row_of Cross d c
@@ -92,9 +92,9 @@ swept_led t d grid f long =
 
 -- the colours of the strands above all rows are those below where the action fixes the feet
 pub feet_return : (t : Table) (d : Diagram) → IsGrid d → (f : List ℕ) → length f ≡ size d
-    → action t (word d).letters (map (λ c. get_or f c 0) (down_columns d)) ≡ map (λ c. get_or (swept t d f (size d)) c 0) (down_columns d)
+    → action t (word_of_diagram d).letters (map (λ c. get_or f c 0) (down_columns d)) ≡ map (λ c. get_or (swept t d f (size d)) c 0) (down_columns d)
 feet_return t d grid f long =
-    ap (λ (cs : List ℕ). action t (word d).letters (map (λ c. get_or f c 0) cs)) (sym (lowest_strands d))
+    ap (λ (cs : List ℕ). action t (word_of_diagram d).letters (map (λ c. get_or f c 0) cs)) (sym (lowest_strands d))
     ∙ (swept_led t d grid f long (size d) (omega arith)
     ∙ ap (map (λ c. get_or (swept t d f (size d)) c 0)) (highest_strands d grid))
 
@@ -125,7 +125,7 @@ strand_settled t d grid f returned r lt c inside at = elim (cases_lt (row_of Cro
 
 -- a moved strand's colour hangs on those of the strands
 moved_same : (t : Table) (d : Diagram) → IsGrid d → (e f : ℕ → ℕ) (r : ℕ) → r < size d → ((c : ℕ) → c < size d → is_strand d r c ≡ true → e c ≡ f c)
-    → moved t d e r ≡ moved t d f r
+    → moved_colour t d e r ≡ moved_colour t d f r
 moved_same t d grid e f r lt same =
     let row = has_ends d grid r lt in
     let within = row.within in

@@ -17,14 +17,14 @@ laid d feet = map (λ c. if is_up d c then 0 else slice_index feet (length (down
 
 -- the colour with which the strand that row r moves arrives at the X, where `colour` gives the strand of each column its colour below the row:
 -- to the right it passes under each strand between from that one's left, to the left from that one's right
-abbrev pub moved : Table → Diagram → (ℕ → ℕ) → ℕ → ℕ
-moved t d colour r =
+abbrev pub moved_colour : Table → Diagram → (ℕ → ℕ) → ℕ → ℕ
+moved_colour t d colour r =
     if is_rightward d r then fold (back t) (colour (column_of Ring d r)) (map colour (strands_between d r))
     else fold (over t) (colour (column_of Ring d r)) (reverse (map colour (strands_between d r)))
 
 -- the colours of the strands, by column, above row r, and above the rows below height h
 abbrev pub swept_row : Table → Diagram → List ℕ → ℕ → List ℕ
-swept_row t d colours r = slice_set colours (column_of Cross d r) (moved t d (slice_index colours) r)
+swept_row t d colours r = slice_set colours (column_of Cross d r) (moved_colour t d (slice_index colours) r)
 
 abbrev pub swept : Table → Diagram → List ℕ → ℕ → List ℕ
 swept t d colours h = fold (swept_row t d) colours (range_with_len 0 h)

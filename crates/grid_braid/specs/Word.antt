@@ -26,8 +26,8 @@ abbrev pub letters_below : Diagram → ℕ → List ℤ
 letters_below d h = flat_map (row_letters d) (range_with_len 0 h)
 
 -- the word of the diagram: as many strands as there are down columns, and the letters of all rows
-abbrev pub word : Diagram → Word
-word d = record { strands = length (down_columns d); letters = letters_below d (size d) }
+abbrev pub word_of_diagram : Diagram → Word
+word_of_diagram d = record { strands = length (down_columns d); letters = letters_below d (size d) }
 
 -- a word of any number of strands and of letters: no letter is 0, and the absolute value of each is below the number of strands
 abbrev pub IsWord : Word → Type 0

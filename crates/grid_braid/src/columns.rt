@@ -5,7 +5,7 @@ ghost use Rattle.grid_core.specs.Diagram.{size};
 ghost use Rattle.colour_rows.specs.Colouring.{AreColours, IsColouring};
 ghost use Rattle.braid_core.specs.Action.{IsTuple, action};
 ghost use Rattle.grid_braid.specs.Strands.{down_columns};
-ghost use Rattle.grid_braid.specs.Word.{word};
+ghost use Rattle.grid_braid.specs.Word.{word_of_diagram};
 ghost use Rattle.grid_braid.specs.Feet.{at_feet};
 ghost use Rattle.grid_braid.specs.Sweep.{laid, swept};
 ghost use Rattle.grid_braid.specs.Columns.{passed_back, column_colours};
@@ -20,8 +20,8 @@ use quandle_core::Quandle;
 ///
 /// There is to be a colour below the order for each down column, from left to right. Takes no memory.
 pub fn colours_of(grid: &Grid, quandle: &Quandle, feet: &[u8]) -> Option<Colouring>
-    requires { IsTuple quandle.now (word grid.now).strands feet.now }
-    ensures none { (result ≡ None) ↔ (action quandle.now (word grid.now).letters feet.now ≢ feet.now) }
+    requires { IsTuple quandle.now (word_of_diagram grid.now).strands feet.now }
+    ensures none { (result ≡ None) ↔ (action quandle.now (word_of_diagram grid.now).letters feet.now ≢ feet.now) }
     ensures colouring { IfSome result (λ c. IsColouring quandle.now grid.now c.items) }
     ensures feet { IfSome result (λ c. at_feet quandle.now grid.now c.items ≡ feet.now) }
 {
@@ -36,7 +36,7 @@ pub fn colours_of(grid: &Grid, quandle: &Quandle, feet: &[u8]) -> Option<Colouri
 
 /// The colours of the strands above all rows, by column, where these are the feet.
 fn strands_from(grid: &Grid, quandle: &Quandle, feet: &[u8]) -> Colouring
-    requires { IsTuple quandle.now (word grid.now).strands feet.now }
+    requires { IsTuple quandle.now (word_of_diagram grid.now).strands feet.now }
     ensures strands { result.items ≡ swept quandle.now grid.now (laid grid.now feet.now) (size grid.now) }
     ensures colours { AreColours (size grid.now) quandle.now.order result.items }
 {

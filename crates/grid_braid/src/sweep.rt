@@ -4,7 +4,7 @@ ghost use Rattle.grid_core.specs.Diagram.{size};
 ghost use Rattle.quandle_core.specs.Quandle.{over, back};
 ghost use Rattle.colour_rows.specs.Colouring.{AreColours};
 ghost use Rattle.grid_braid.specs.Strands.{strands_between, down_columns};
-ghost use Rattle.grid_braid.specs.Sweep.{laid, moved, swept_row, swept};
+ghost use Rattle.grid_braid.specs.Sweep.{laid, moved_colour, swept_row, swept};
 
 use crate::strands::is_strand;
 use colour_rows::Colouring;

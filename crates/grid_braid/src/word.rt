@@ -2,7 +2,7 @@
 ghost use Rattle.std.specs.Prelude.{◌≡◌, ◌<◌, ◌≤◌, ◌+◌, ◌++◌, length, IfOk, OnOk};
 ghost use Rattle.grid_core.specs.Diagram.{size};
 ghost use Rattle.grid_braid.specs.Strands.{down_columns};
-ghost use Rattle.grid_braid.specs.Word.{leftward, rightward, row_letters, word, IsWord};
+ghost use Rattle.grid_braid.specs.Word.{leftward, rightward, row_letters, word_of_diagram, IsWord};
 
 use crate::strands::{count_down, count_within};
 use grid_core::{Grid, Kind, MAX_SIZE};
@@ -55,7 +55,7 @@ impl GridWord {
 /// At each height the strands are the up columns that are cut there and the down columns that are not, from left to right; below all rows they are the down columns.
 /// From the lowest row on, each row moves the strand that arrives at its O to its X, under all strands strictly between: from position k+1 to k by the letter `+k`, and from k to k+1 by `-k`.
 pub fn word_of(alloc: Global, grid: &Grid) -> Result<GridWord, OutOfMemory>
-    ensures { IfOk result (λ w. w ≡ word grid.now) }
+    ensures { IfOk result (λ w. w ≡ word_of_diagram grid.now) }
 {
     let strands = count_down(grid);
     let mut letters = Vec::new(alloc);

@@ -6,7 +6,7 @@ use Rattle.std.proofs.lemmas.List.Elements.{All-append, All-replicate, All-take,
 use Rattle.grid_core.specs.Diagram.{Diagram}
 use Rattle.grid_keys.specs.declared.key.TheConstants.{BASE, WORD_COLUMNS}
 use Rattle.grid_canon.specs.declared.digits.TheConstants.{MAX_SHORT_SIZE, SHORT_BASE, SHORT_BITS}
-use Rattle.grid_keys.specs.Key.{number, filled, words_of, key_of}
+use Rattle.grid_keys.specs.Key.{key_number, filled, words_of, key_of}
 use Rattle.grid_canon.specs.Digits.{short_number, digits}
 use Rattle.grid_keys.specs.Cornered.{cornered}
 use Rattle.grid_keys.proofs.NumbersTo.{number_to-filled}
@@ -19,16 +19,16 @@ use Rattle.grid_keys.proofs.Keys.{key_from}
 use Rattle.grid_canon.proofs.CutNumbers.{IsFew, cornered_digits}
 
 -- the digits of a short number, to the base of keys, are below the power of it
-pub spread_below : (n value : ℕ) → value < SHORT_BASE ^ n → number (digits n value) < BASE ^ n
+pub spread_below : (n value : ℕ) → value < SHORT_BASE ^ n → key_number (digits n value) < BASE ^ n
 spread_below n value lt =
     let all : AreDigits (digits n value) = λ k d inside. omega (arith, digits-below n value lt k d inside) in
-    subst (λ (z : ℕ). number (digits n value) < BASE ^ z) (length-digits n value) (number-below (digits n value) all)
+    subst (λ (z : ℕ). key_number (digits n value) < BASE ^ z) (length-digits n value) (number-below (digits n value) all)
 
 -- a short number cut in two: what each piece is below, and what it is worth to the base of keys
 pub record IsCutInTwo (m n value : ℕ) : Type 0 where
   pub front_below : value / SHORT_BASE ^ n < SHORT_BASE ^ m
   pub back_below : value % SHORT_BASE ^ n < SHORT_BASE ^ n
-  pub spread : number (digits (m + n) value) ≡ number (digits m (value / SHORT_BASE ^ n)) * BASE ^ n + number (digits n (value % SHORT_BASE ^ n))
+  pub spread : key_number (digits (m + n) value) ≡ key_number (digits m (value / SHORT_BASE ^ n)) * BASE ^ n + key_number (digits n (value % SHORT_BASE ^ n))
 
 pub cut_in_two : (m n value : ℕ) → value < SHORT_BASE ^ (m + n) → IsCutInTwo m n value
 cut_in_two m n value lt =
@@ -58,11 +58,11 @@ cut_in_two m n value lt =
       front_below = subst (λ (z : ℕ). z < SHORT_BASE ^ m) (sym is_front) high;
       back_below = subst (λ (z : ℕ). z < SHORT_BASE ^ n) (sym is_back) low;
       spread =
-          ap number (sym (take-append-drop m xs))
+          ap key_number (sym (take-append-drop m xs))
           ∙ number-append front back
           ∙ ap₂ (λ (z w : ℕ). z + w)
-          (ap₂ (λ (zs : List ℕ) (k : ℕ). number zs * BASE ^ k) (sym (read_digits m (value / SHORT_BASE ^ n) front front_long front_all is_front)) back_long)
-          (ap number (sym (read_digits n (value % SHORT_BASE ^ n) back back_long back_all is_back)));
+          (ap₂ (λ (zs : List ℕ) (k : ℕ). key_number zs * BASE ^ k) (sym (read_digits m (value / SHORT_BASE ^ n) front front_long front_all is_front)) back_long)
+          (ap key_number (sym (read_digits n (value % SHORT_BASE ^ n) back back_long back_all is_back)));
     }
 
 -- a short number with zeros behind its digits, up to as many as it has at most
@@ -82,8 +82,8 @@ full_short value n le lt =
 
 -- the word of such a number
 pub full_word : (value n full word : ℕ) → n ≤ MAX_SHORT_SIZE → value < SHORT_BASE ^ n → full ≡ value * SHORT_BASE ^ (MAX_SHORT_SIZE - n)
-    → word ≡ number (digits MAX_SHORT_SIZE full) * BASE ^ (WORD_COLUMNS - MAX_SHORT_SIZE)
-    → word ≡ number (take WORD_COLUMNS (filled (digits n value)))
+    → word ≡ key_number (digits MAX_SHORT_SIZE full) * BASE ^ (WORD_COLUMNS - MAX_SHORT_SIZE)
+    → word ≡ key_number (take WORD_COLUMNS (filled (digits n value)))
 full_word value n full word le lt is_full is =
     let xs : List ℕ = digits n value in
     let more : ℕ = MAX_SHORT_SIZE - n in
@@ -100,13 +100,13 @@ full_word value n full word le lt is_full is =
     piece_filled xs 0 WORD_COLUMNS (omega (arith, long, le)) (omega arith)
     ∙ ap₂ (λ (zs : List ℕ) (k : ℕ). zs ++ replicate (WORD_COLUMNS - k) 0) piece (ap length piece ∙ long) in
     is
-    ∙ ap (λ zs. number zs * BASE ^ (WORD_COLUMNS - MAX_SHORT_SIZE)) list
+    ∙ ap (λ zs. key_number zs * BASE ^ (WORD_COLUMNS - MAX_SHORT_SIZE)) list
     ∙ ap (λ (z : ℕ). z * BASE ^ (WORD_COLUMNS - MAX_SHORT_SIZE)) (number-filled xs more)
-    ∙ regrouped (number xs) (BASE ^ more) (BASE ^ (WORD_COLUMNS - MAX_SHORT_SIZE))
-    ∙ ap (λ (z : ℕ). number xs * z)
+    ∙ regrouped (key_number xs) (BASE ^ more) (BASE ^ (WORD_COLUMNS - MAX_SHORT_SIZE))
+    ∙ ap (λ (z : ℕ). key_number xs * z)
     (sym (pow-add BASE more (WORD_COLUMNS - MAX_SHORT_SIZE))
     ∙ ap (λ (z : ℕ). BASE ^ z) (let sum : more + (WORD_COLUMNS - MAX_SHORT_SIZE) ≡ WORD_COLUMNS - n = omega (arith, le) in sum))
-    ∙ sym (ap number filling ∙ number-filled xs (WORD_COLUMNS - n))
+    ∙ sym (ap key_number filling ∙ number-filled xs (WORD_COLUMNS - n))
   where
     regrouped : (a b c : ℕ) → a * b * c ≡ a * (b * c)
     regrouped a b c = omega arith

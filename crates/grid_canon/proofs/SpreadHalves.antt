@@ -4,7 +4,7 @@ use Rattle.std.proofs.lemmas.Nat.{and_mask, and_block, div-add-mod'}
 use Rattle.grid_canon.specs.declared.digits.TheConstants.{SHORT_BASE, SHORT_BITS}
 use Rattle.grid_canon.specs.declared.spread.TheConstants.{HALF, QUARTER, SHORT_QUARTER, LONG_QUARTER, LAST_DIGITS, LAST_TWO_DIGITS}
 use Rattle.grid_canon.specs.Digits.{digits}
-use Rattle.grid_keys.specs.Key.{number}
+use Rattle.grid_keys.specs.Key.{key_number}
 use Rattle.grid_canon.proofs.ShortKeys.{cut_in_two}
 
 -- the bits of a power of the base in both quarters
@@ -15,7 +15,7 @@ both_bits front back bits low few =
     ∙ ap₂ (λ (z w : ℕ). z * LONG_QUARTER + w) (and_mask front bits) (and_mask back bits)
 
 -- the three digits of a quarter
-quarter_spread : (q : ℕ) → q < SHORT_BASE ^ QUARTER → number (digits QUARTER q) + q % SHORT_BASE + 2 * (q % (SHORT_BASE * SHORT_BASE)) ≡ 4 * q
+quarter_spread : (q : ℕ) → q < SHORT_BASE ^ QUARTER → key_number (digits QUARTER q) + q % SHORT_BASE + 2 * (q % (SHORT_BASE * SHORT_BASE)) ≡ 4 * q
 quarter_spread q lt = omega arith
 
 pub record IsSpread (value : ℕ) : Type 0 where
@@ -24,7 +24,7 @@ pub record IsSpread (value : ℕ) : Type 0 where
       (value + value / SHORT_QUARTER * (LONG_QUARTER - SHORT_QUARTER)) LAST_TWO_DIGITS ≤ 4 * (value + value / SHORT_QUARTER * (LONG_QUARTER - SHORT_QUARTER))
   pub whole : 4 * (value + value / SHORT_QUARTER * (LONG_QUARTER - SHORT_QUARTER)) - bit_and
       (value + value / SHORT_QUARTER * (LONG_QUARTER - SHORT_QUARTER)) LAST_DIGITS - 2 * bit_and
-      (value + value / SHORT_QUARTER * (LONG_QUARTER - SHORT_QUARTER)) LAST_TWO_DIGITS ≡ number (digits HALF value)
+      (value + value / SHORT_QUARTER * (LONG_QUARTER - SHORT_QUARTER)) LAST_TWO_DIGITS ≡ key_number (digits HALF value)
 
 pub spread_known : (value : ℕ) → value < SHORT_BASE ^ HALF → IsSpread value
 spread_known value lt =
@@ -42,7 +42,7 @@ spread_known value lt =
     ap (λ (z : ℕ). bit_and z LAST_TWO_DIGITS) apart ∙ both_bits front back (2 * SHORT_BITS) (omega (arith, back_below)) (omega arith) in
     let one = quarter_spread front front_below in
     let two = quarter_spread back back_below in
-    let spread : number (digits HALF value) ≡ number (digits QUARTER front) * LONG_QUARTER + number (digits QUARTER back) = cut.spread in
+    let spread : key_number (digits HALF value) ≡ key_number (digits QUARTER front) * LONG_QUARTER + key_number (digits QUARTER back) = cut.spread in
     record {
       apart_below = omega (arith, apart, front_below, back_below);
       taken = omega (arith, apart, last, last_two, one, two);

@@ -3,7 +3,7 @@ use Rattle.std.specs.Prelude.{ℕ, zero, suc, ◌≡◌, ◌<◌, ◌/◌, ◌%�
 use Rattle.std.specs.List.{range_with_len}
 use Rattle.grid_moves.specs.Shift.{shifted}
 use Rattle.grid_canon.specs.declared.digits.TheConstants.{SHORT_BASE, GUARD}
-use Rattle.grid_keys.specs.Numbers.{number_to}
+use Rattle.grid_keys.specs.KeyNumbers.{number_to}
 
 -- the number with these digits to the base of short grids
 abbrev pub short_number : List ℕ → ℕ

@@ -4,7 +4,7 @@ ghost use Rattle.grid_canon.specs.declared.digits.TheConstants.{MAX_SHORT_SIZE, 
 ghost use Rattle.grid_keys.specs.declared.key.TheConstants.{BASE, WORD_COLUMNS};
 ghost use Rattle.grid_canon.specs.declared.spread.TheConstants.{HALF, QUARTER};
 ghost use Rattle.grid_canon.specs.Digits.{digits};
-ghost use Rattle.grid_keys.specs.Key.{number, words_of};
+ghost use Rattle.grid_keys.specs.Key.{key_number, words_of};
 
 use crate::digits::{MAX_SHORT_SIZE, SHORT_BASE, SHORT_BITS};
 use grid_keys::{DIGIT_BITS, WORD_COLUMNS, WORDS};
@@ -51,7 +51,7 @@ pub(crate) fn short_words(value: u64, size: u32) -> [u128; WORDS]
 /// The word of as many digits as a short number has at most.
 fn spread_word(full: u64) -> u128
     requires { full < SHORT_BASE ^ MAX_SHORT_SIZE }
-    ensures { result ≡ number (digits MAX_SHORT_SIZE full) * BASE ^ (WORD_COLUMNS - MAX_SHORT_SIZE) }
+    ensures { result ≡ key_number (digits MAX_SHORT_SIZE full) * BASE ^ (WORD_COLUMNS - MAX_SHORT_SIZE) }
 {
     let front = spread_half(full / SHORT_HALF);
     let back = spread_half(full % SHORT_HALF);
@@ -62,7 +62,7 @@ fn spread_word(full: u64) -> u128
 /// twice as much, and the first four times as much, at once in both.
 fn spread_half(value: u64) -> u64
     requires { value < SHORT_BASE ^ HALF }
-    ensures { result ≡ number (digits HALF value) }
+    ensures { result ≡ key_number (digits HALF value) }
 {
     let apart = value + value / SHORT_QUARTER * (LONG_QUARTER - SHORT_QUARTER);
     4 * apart - (apart & LAST_DIGITS) - 2 * (apart & LAST_TWO_DIGITS)

@@ -11,7 +11,7 @@ use Rattle.grid_core.specs.declared.mark.Kind.{Kind}
 use Rattle.grid_core.specs.declared.mark.Kind.TheVariants.{Cross, Ring}
 use Rattle.grid_core.specs.declared.fault.GridFault.TheVariants.{Size, Length, Range, Repeat, Same}
 use Rattle.grid_core.specs.Diagram.{Diagram, IsGrid, size, row_of}
-use Rattle.grid_core.specs.Fault.{lowest, or_next, is_outside, is_repeated, first_fault}
+use Rattle.grid_core.specs.Fault.{lowest, or_next, is_outside, is_repeated, first_grid_fault}
 use Rattle.grid_core.proofs.Marks.{grid_from_rows, no_cell_twice, row_below, row_once}
 
 -- the lowest column that passes
@@ -108,7 +108,7 @@ none_left None no_some = refl
 none_left (Some place) no_some = absurd (no_some place refl)
 
 -- lists without a fault are a grid
-pub accepted_lists : (x o : List ℕ) → first_fault x o ≡ None → IsGrid (record { x = x; o = o })
+pub accepted_lists : (x o : List ℕ) → first_grid_fault x o ≡ None → IsGrid (record { x = x; o = o })
 accepted_lists x o e =
     let n : ℕ = length x in
     let size = cond_passed (not (nat_le 2 n && nat_le n MAX_SIZE)) Size _ e in
@@ -120,7 +120,7 @@ accepted_lists x o e =
     accepted x o (leb-true 2 n bounds.0) (leb-true n MAX_SIZE bounds.1) (eqb-true (length o) n (not-false (length o == n) same.0)) outside.0 repeated.0 cell.0
 
 -- and a grid passes them
-pub faultless : (d : Diagram) → IsGrid d → first_fault d.x d.o ≡ None
+pub faultless : (d : Diagram) → IsGrid d → first_grid_fault d.x d.o ≡ None
 faultless d grid =
     let n : ℕ = size d in
     cond-false (not (nat_le 2 n && nat_le n MAX_SIZE)) (Some Size) _ (ap₂ (λ a b. not (a && b)) (le-leb 2 n grid.least) (le-leb n MAX_SIZE grid.most))

@@ -3,7 +3,7 @@ ghost use Rattle.std.specs.Prelude.{◌≡◌, ◌<◌, ◌≤◌, ◌↔◌, le
 ghost use Rattle.std.specs.List.{All};
 ghost use Rattle.std.specs.Result.{result_err};
 ghost use Rattle.grid_core.specs.Diagram.{Diagram, IsGrid, size, rows_of, row_of};
-ghost use Rattle.grid_core.specs.Fault.{first_fault};
+ghost use Rattle.grid_core.specs.Fault.{first_grid_fault};
 
 use crate::fault::{GridFault, lowest_outside, lowest_repeated, lowest_same};
 use crate::mark::Kind;
@@ -39,7 +39,7 @@ impl Grid {
     /// The grid whose column c has its X in row `x[c]` and its O in row `o[c]`, or the first reason why there is none.
     /// The faults are tried in the order of `GridFault`, each for its lowest column. Takes no memory.
     pub fn new(x: &[u8], o: &[u8]) -> Result<Grid, GridFault>
-        ensures fault { result_err result ≡ first_fault x.now o.now }
+        ensures fault { result_err result ≡ first_grid_fault x.now o.now }
         ensures grid { IfOk result (λ g. g ≡ record { x = x.now; o = o.now }) }
     {
         if x.len() < 2 || x.len() > MAX_SIZE {

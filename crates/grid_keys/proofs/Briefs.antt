@@ -12,7 +12,7 @@ use Rattle.grid_keys.specs.declared.brief.TheConstants.{SIZE_PLACE}
 use Rattle.grid_keys.specs.declared.key.Packed.{Packed}
 use Rattle.grid_keys.specs.declared.key.TheConstants.{BASE, WORD_COLUMNS, WORDS}
 use Rattle.grid_keys.specs.Brief.{whole_key, same_brief}
-use Rattle.grid_keys.specs.Key.{key_of, same_key, number, filled, words_of}
+use Rattle.grid_keys.specs.Key.{key_of, same_key, key_number, filled, words_of}
 use Rattle.grid_keys.proofs.Keys.{rows_are_digits, same_key_of, same_key_true}
 use Rattle.grid_keys.proofs.Numbers.{AreDigits, number-below, filled-digits}
 use Rattle.grid_keys.proofs.Words.{short_words_of}
@@ -48,7 +48,7 @@ told_alike a b = by (same_key (whole_key a) (whole_key b)) (same_brief a b) refl
     by false true whole is = absurd (let yes = same_key_of (whole_key a) (whole_key b) (ap whole_key (brief_true a b is)) in cc)
 
 -- a grid of few columns has a brief key
-first_below : (rows : List ℕ) → AreDigits rows → number (take WORD_COLUMNS (filled rows)) < SIZE_PLACE
+first_below : (rows : List ℕ) → AreDigits rows → key_number (take WORD_COLUMNS (filled rows)) < SIZE_PLACE
 first_below rows all =
     let piece : List ℕ = take WORD_COLUMNS (filled rows) in
     let long : length piece ≤ WORD_COLUMNS = omega (arith, length-take WORD_COLUMNS (filled rows)) in
@@ -58,8 +58,8 @@ first_below rows all =
 
 pub few_columns : (d : Diagram) → IsGrid d → size d ≤ WORD_COLUMNS → (b : BriefKey) × (whole_key b ≡ key_of d)
 few_columns d grid few =
-    let x : ℕ = number (take WORD_COLUMNS (filled d.x)) in
-    let o : ℕ = number (take WORD_COLUMNS (filled d.o)) in
+    let x : ℕ = key_number (take WORD_COLUMNS (filled d.x)) in
+    let o : ℕ = key_number (take WORD_COLUMNS (filled d.o)) in
     let low : x < SIZE_PLACE = first_below d.x (rows_are_digits d Cross grid) in
     let sizes : (size d * SIZE_PLACE + x) / SIZE_PLACE ≡ size d = div-mul-add (size d) SIZE_PLACE x low in
     let words : (size d * SIZE_PLACE + x) % SIZE_PLACE ≡ x = mod-mul-add (size d) SIZE_PLACE x low in

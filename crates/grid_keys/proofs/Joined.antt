@@ -9,7 +9,7 @@ use Rattle.grid_moves.specs.Joining.{Joins, JoinsWithin}
 use Rattle.grid_moves.proofs.Shifted.{shifted_high}
 use Rattle.grid_moves.proofs.Within.{within_append, within_joins}
 use Rattle.grid_keys.specs.Translation.{translate}
-use Rattle.grid_keys.specs.Shifts.{column_shift, row_shift, shift_moves}
+use Rattle.grid_keys.specs.Shifts.{needed_column_shift, needed_row_shift, shift_moves}
 use Rattle.grid_keys.proofs.Translated.{origin, origin_cases, size-translate, row_of-translate, translate-renumbered, translate-grid, translate-translate}
 
 pub unshifted : (n c : ℕ) → c < n → shifted n 0 c ≡ c
@@ -70,12 +70,12 @@ row_shift_step d b grid least most =
       };
     }
 
-columns_joined : (d : Diagram) (a : ℕ) → IsGrid d → a < size d → JoinsWithin (size d) d (column_shift a) (translate d a 0)
+columns_joined : (d : Diagram) (a : ℕ) → IsGrid d → a < size d → JoinsWithin (size d) d (needed_column_shift a) (translate d a 0)
 columns_joined d zero grid most = (omega arith, sym (translate_none d grid))
 columns_joined d (suc k) grid most =
     (omega arith, (translate d (suc k) 0, (column_shift_step d (suc k) grid (omega arith) most, (omega (arith, size-translate d (suc k) 0 most), refl))))
 
-rows_joined : (d : Diagram) (b : ℕ) → IsGrid d → b < size d → JoinsWithin (size d) d (row_shift b) (translate d 0 b)
+rows_joined : (d : Diagram) (b : ℕ) → IsGrid d → b < size d → JoinsWithin (size d) d (needed_row_shift b) (translate d 0 b)
 rows_joined d zero grid most = (omega arith, sym (translate_none d grid))
 rows_joined d (suc k) grid most = (
   omega arith,
@@ -103,9 +103,9 @@ shifts_joined_within d a b grid ha hb =
     let some : 0 < size d = omega (arith, grid.least) in
     let half : Diagram = translate d a 0 in
     let long : size half ≡ size d = size-translate d a 0 ha in
-    within_append (size d) (column_shift a) (row_shift b) d half (translate d a b) (columns_joined d a grid ha)
-    (subst (λ (n : ℕ). JoinsWithin n half (row_shift b) (translate d a b)) long
-    (subst (λ t. JoinsWithin (size half) half (row_shift b) t) (columns_then_rows d a b grid ha hb)
+    within_append (size d) (needed_column_shift a) (needed_row_shift b) d half (translate d a b) (columns_joined d a grid ha)
+    (subst (λ (n : ℕ). JoinsWithin n half (needed_row_shift b) (translate d a b)) long
+    (subst (λ t. JoinsWithin (size half) half (needed_row_shift b) t) (columns_then_rows d a b grid ha hb)
     (rows_joined half b (translate-grid d a 0 grid ha some) (omega (arith, long, hb)))))
 
 pub shifts_joined : (d : Diagram) (a b : ℕ) → IsGrid d → a < size d → b < size d → Joins d (shift_moves a b) (translate d a b)

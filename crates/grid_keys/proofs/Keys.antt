@@ -13,7 +13,7 @@ use Rattle.grid_core.specs.declared.grid.TheConstants.{MAX_SIZE}
 use Rattle.grid_core.specs.declared.mark.Kind.{Kind}
 use Rattle.grid_core.specs.declared.mark.Kind.TheVariants.{Cross, Ring}
 use Rattle.grid_core.specs.declared.fault.GridFault.{GridFault}
-use Rattle.grid_core.specs.Fault.{first_fault}
+use Rattle.grid_core.specs.Fault.{first_grid_fault}
 use Rattle.grid_core.proofs.Accepted.{faultless}
 use Rattle.grid_core.specs.Diagram.{Diagram, IsGrid, size, rows_of}
 use Rattle.grid_core.proofs.Marks.{rows_each, rows_fit}
@@ -128,9 +128,9 @@ pub kept_where_key : (o : Option Diagram) (g d : Diagram) (key : Packed) → IfS
 kept_where_key None g d key some none is same = absurd (none (ap (λ (f : Diagram). key_of f) is ∙ same))
 kept_where_key (Some h) g d key some none is same = ap (λ f. Some f) (some.0 ∙ is)
 
-pub faulty : (d : Diagram) (x o : List ℕ) (fault : GridFault) → IsGrid d → d ≡ record { x = x; o = o } → Some fault ≡ first_fault x o → ⊥
+pub faulty : (d : Diagram) (x o : List ℕ) (fault : GridFault) → IsGrid d → d ≡ record { x = x; o = o } → Some fault ≡ first_grid_fault x o → ⊥
 faulty d x o fault grid is e =
-    absurd (let no : ◌≡◌ {A = Option GridFault} (Some fault) None = e ∙ ap (λ (f : Diagram). first_fault f.x f.o) (sym is) ∙ faultless d grid in cc)
+    absurd (let no : ◌≡◌ {A = Option GridFault} (Some fault) None = e ∙ ap (λ (f : Diagram). first_grid_fault f.x f.o) (sym is) ∙ faultless d grid in cc)
 
 -- a key from its fields
 pub key_from : (d : Diagram) (n : ℕ) (x o : List ℕ) → n ≡ size d → x ≡ words_of d.x → o ≡ words_of d.o → key_of d ≡ record { size = n; x = x; o = o }

@@ -13,23 +13,23 @@ use Rattle.grid_core.specs.declared.grid.TheConstants.{MAX_SIZE}
 use Rattle.grid_moves.specs.Shift.{shifted}
 use Rattle.grid_moves.proofs.Shifted.{shifted_below}
 use Rattle.grid_keys.specs.declared.key.TheConstants.{BASE, DIGIT_BITS, WORD_COLUMNS, WORDS}
-use Rattle.grid_keys.specs.Key.{number, filled}
+use Rattle.grid_keys.specs.Key.{key_number, filled}
 use Rattle.grid_keys.proofs.Ordered.{nat_cmp_same}
 use Rattle.grid_keys.proofs.NumbersTo.{AreDigitsTo, number_to-append, number_to-below, number_to-push, number_to-filled, number_to-order, power_of_two}
 
 abbrev pub AreDigits : List ℕ → Type 0
 AreDigits digits = AreDigitsTo BASE digits
 
-pub number-append : (xs ys : List ℕ) → number (xs ++ ys) ≡ number xs * BASE ^ length ys + number ys
+pub number-append : (xs ys : List ℕ) → key_number (xs ++ ys) ≡ key_number xs * BASE ^ length ys + key_number ys
 number-append = number_to-append BASE
 
-pub number-below : (digits : List ℕ) → AreDigits digits → number digits < BASE ^ length digits
+pub number-below : (digits : List ℕ) → AreDigits digits → key_number digits < BASE ^ length digits
 number-below digits all = number_to-below BASE digits (omega arith) all
 
-pub number-push : (xs : List ℕ) (x : ℕ) → number (xs ++ x ∷ []) ≡ number xs * BASE + x
+pub number-push : (xs : List ℕ) (x : ℕ) → key_number (xs ++ x ∷ []) ≡ key_number xs * BASE + x
 number-push = number_to-push BASE
 
-pub number-filled : (xs : List ℕ) (k : ℕ) → number (xs ++ replicate k 0) ≡ number xs * BASE ^ k
+pub number-filled : (xs : List ℕ) (k : ℕ) → key_number (xs ++ replicate k 0) ≡ key_number xs * BASE ^ k
 number-filled = number_to-filled BASE
 
 -- the base as a power of two
@@ -37,19 +37,19 @@ pub base_bits : (k : ℕ) → BASE ^ k ≡ 2 ^ (DIGIT_BITS * k)
 base_bits k = power_of_two BASE DIGIT_BITS k refl
 
 -- the digit at a place
-pub number-digit : (xs : List ℕ) (i k : ℕ) → AreDigits xs → i + 1 + k ≡ length xs → number xs / BASE ^ k % BASE ≡ get_or xs i 0
+pub number-digit : (xs : List ℕ) (i k : ℕ) → AreDigits xs → i + 1 + k ≡ length xs → key_number xs / BASE ^ k % BASE ≡ get_or xs i 0
 number-digit xs i k all long =
     let lt : i < length xs = omega (arith, long) in
     let after : length (drop (i + 1) xs) ≡ k = omega (arith, length-drop (i + 1) xs, long) in
-    let low : number (drop (i + 1) xs) < BASE ^ k =
-    subst (λ (z : ℕ). number (drop (i + 1) xs) < BASE ^ z) after (number-below (drop (i + 1) xs) (All-drop (λ digit. digit < BASE) (i + 1) xs all)) in
-    let split : number xs ≡ (number (take i xs) * BASE + get_or xs i 0) * BASE ^ k + number (drop (i + 1) xs) =
-    ap number (sym (take-append-drop (i + 1) xs))
+    let low : key_number (drop (i + 1) xs) < BASE ^ k =
+    subst (λ (z : ℕ). key_number (drop (i + 1) xs) < BASE ^ z) after (number-below (drop (i + 1) xs) (All-drop (λ digit. digit < BASE) (i + 1) xs all)) in
+    let split : key_number xs ≡ (key_number (take i xs) * BASE + get_or xs i 0) * BASE ^ k + key_number (drop (i + 1) xs) =
+    ap key_number (sym (take-append-drop (i + 1) xs))
     ∙ number-append (take (i + 1) xs) (drop (i + 1) xs)
-    ∙ ap₂ (λ (z w : ℕ). z * BASE ^ w + number (drop (i + 1) xs)) (ap number (take_more xs i 0 lt) ∙ number-push (take i xs) (get_or xs i 0)) after in
+    ∙ ap₂ (λ (z w : ℕ). z * BASE ^ w + key_number (drop (i + 1) xs)) (ap key_number (take_more xs i 0 lt) ∙ number-push (take i xs) (get_or xs i 0)) after in
     ap (λ (z : ℕ). z / BASE ^ k % BASE) split
-    ∙ ap (λ (z : ℕ). z % BASE) (div-mul-add (number (take i xs) * BASE + get_or xs i 0) (BASE ^ k) (number (drop (i + 1) xs)) low)
-    ∙ mod-mul-add (number (take i xs)) BASE (get_or xs i 0) (all i 0 lt)
+    ∙ ap (λ (z : ℕ). z % BASE) (div-mul-add (key_number (take i xs) * BASE + get_or xs i 0) (BASE ^ k) (key_number (drop (i + 1) xs)) low)
+    ∙ mod-mul-add (key_number (take i xs)) BASE (get_or xs i 0) (all i 0 lt)
 
 -- filled lists
 pub length-filled : (rows : List ℕ) → length rows ≤ MAX_SIZE → length (filled rows) ≡ WORDS * WORD_COLUMNS
@@ -63,11 +63,11 @@ filled-digits rows all =
     All-append (λ digit. digit < BASE) rows (replicate more 0) all (All-replicate (λ digit. digit < BASE) more 0 (omega arith))
 
 -- one more row in the making
-pub number_more : (rows : List ℕ) (i : ℕ) → i < length rows → number (take (i + 1) rows) ≡ number (take i rows) * BASE + get_or rows i 0
-number_more rows i lt = ap number (take_more rows i 0 lt) ∙ number-push (take i rows) (get_or rows i 0)
+pub number_more : (rows : List ℕ) (i : ℕ) → i < length rows → key_number (take (i + 1) rows) ≡ key_number (take i rows) * BASE + get_or rows i 0
+number_more rows i lt = ap key_number (take_more rows i 0 lt) ∙ number-push (take i rows) (get_or rows i 0)
 
 pub number_fits : (rows : List ℕ) (i : ℕ) → AreDigits rows → length rows ≤ WORD_COLUMNS → i < length rows
-    → number (take i rows) * BASE + get_or rows i 0 < 2 ^ 128
+    → key_number (take i rows) * BASE + get_or rows i 0 < 2 ^ 128
 number_fits rows i all le within =
     let low = number-below (take (i + 1) rows) (All-take (λ digit. digit < BASE) (i + 1) rows all) in
     let high =
@@ -87,7 +87,7 @@ digits_more f n =
 
 -- numbers with as many digits are in the order of their lists
 pub number-order : (xs ys : List ℕ) → length xs ≡ length ys → AreDigits xs → AreDigits ys
-    → nat_cmp (number xs) (number ys) ≡ slice_cmp nat_cmp xs ys
+    → nat_cmp (key_number xs) (key_number ys) ≡ slice_cmp nat_cmp xs ys
 number-order xs ys same ax ay = number_to-order BASE xs ys (omega arith) same ax ay
 
 pub slice_cmp-append : (xs ys zs : List ℕ) → length xs ≡ length ys → slice_cmp nat_cmp (xs ++ zs) (ys ++ zs) ≡ slice_cmp nat_cmp xs ys

@@ -7,7 +7,7 @@ use Rattle.std.proofs.lemmas.List.{length-replicate}
 use Rattle.std.proofs.lemmas.List.Elements.{All-tail}
 use Rattle.std.specs.Ordering.{nat_cmp, ordering_then}
 use Rattle.std.specs.Cmp.Lexicographic.{slice_cmp}
-use Rattle.grid_keys.specs.Numbers.{number_to}
+use Rattle.grid_keys.specs.KeyNumbers.{number_to}
 use Rattle.grid_keys.proofs.Ordered.{nat_cmp_less, nat_cmp_greater, nat_cmp_same}
 
 abbrev pub AreDigitsTo : ℕ → List ℕ → Type 0

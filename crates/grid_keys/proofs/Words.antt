@@ -16,7 +16,7 @@ use Rattle.std.specs.Cmp.Lexicographic.{slice_cmp}
 use Rattle.grid_core.specs.declared.grid.TheConstants.{MAX_SIZE}
 use Rattle.grid_keys.specs.Translation.{translated_rows}
 use Rattle.grid_keys.specs.declared.key.TheConstants.{BASE, DIGIT_BITS, WORD_COLUMNS, WORDS}
-use Rattle.grid_keys.specs.Key.{number, filled, words, words_of, digit_at}
+use Rattle.grid_keys.specs.Key.{key_number, filled, words, words_of, digit_at}
 use Rattle.grid_keys.proofs.Numbers.{AreDigits, number-below, number-digit, number-filled, number-order, length-filled, filled-digits, base_bits, lowered_rows, slice_cmp-append}
 
 -- behind the end of a list nothing is read
@@ -67,17 +67,17 @@ take_at_most n m xs is = elim (cases_lt n (length xs)) [
 
 -- the number of a piece, filled by a shift
 pub word_by_shift : (rows : List ℕ) (from : ℕ) (piece : List ℕ) (value : ℕ) → length rows ≤ MAX_SIZE → from + WORD_COLUMNS ≤ WORDS * WORD_COLUMNS → AreDigits piece
-    → piece ≡ take WORD_COLUMNS (drop from rows) → value ≡ number piece
-    → value * 2 ^ (DIGIT_BITS * (WORD_COLUMNS - length piece)) % 2 ^ 128 ≡ number (take WORD_COLUMNS (drop from (filled rows)))
+    → piece ≡ take WORD_COLUMNS (drop from rows) → value ≡ key_number piece
+    → value * 2 ^ (DIGIT_BITS * (WORD_COLUMNS - length piece)) % 2 ^ 128 ≡ key_number (take WORD_COLUMNS (drop from (filled rows)))
 word_by_shift rows from piece value le fits all is e =
     let short : length piece ≤ WORD_COLUMNS = omega (arith, ap length is, length-take WORD_COLUMNS (drop from rows)) in
     let rest : ℕ = WORD_COLUMNS - length piece in
     let list : take WORD_COLUMNS (drop from (filled rows)) ≡ piece ++ replicate rest 0 =
     piece_filled rows from WORD_COLUMNS le fits ∙ ap (λ zs. zs ++ replicate (WORD_COLUMNS - length zs) 0) (sym is) in
-    let whole : value * 2 ^ (DIGIT_BITS * rest) ≡ number piece * BASE ^ rest = ap₂ (λ (z w : ℕ). z * w) e (sym (base_bits rest)) in
-    let low : number piece * BASE ^ rest < 2 ^ 128 =
-    below_all (number piece) (length piece) rest (number-below piece all) (omega (arith, short)) in
-    ap (λ (z : ℕ). z % 2 ^ 128) whole ∙ mod-eq_of_lt low ∙ sym (ap number list ∙ number-filled piece rest)
+    let whole : value * 2 ^ (DIGIT_BITS * rest) ≡ key_number piece * BASE ^ rest = ap₂ (λ (z w : ℕ). z * w) e (sym (base_bits rest)) in
+    let low : key_number piece * BASE ^ rest < 2 ^ 128 =
+    below_all (key_number piece) (length piece) rest (number-below piece all) (omega (arith, short)) in
+    ap (λ (z : ℕ). z % 2 ^ 128) whole ∙ mod-eq_of_lt low ∙ sym (ap key_number list ∙ number-filled piece rest)
   where
     below_all : (a n k : ℕ) → a < BASE ^ n → n + k ≡ WORD_COLUMNS → a * BASE ^ k < 2 ^ 128
     below_all a n k lt is =
@@ -88,11 +88,11 @@ word_by_shift rows from piece value le fits all is e =
 
 -- a word behind the rows is 0
 pub word_behind : (rows : List ℕ) (from : ℕ) → length rows ≤ from → from + WORD_COLUMNS ≤ WORDS * WORD_COLUMNS
-    → number (take WORD_COLUMNS (drop from (filled rows))) ≡ 0
+    → key_number (take WORD_COLUMNS (drop from (filled rows))) ≡ 0
 word_behind rows from past fits =
     let piece : List ℕ = take WORD_COLUMNS (drop from rows) in
     let none : length piece ≡ 0 = omega (arith, length-take WORD_COLUMNS (drop from rows), length-drop from rows, past) in
-    ap number (piece_filled rows from WORD_COLUMNS (omega (arith, past, fits)) fits)
+    ap key_number (piece_filled rows from WORD_COLUMNS (omega (arith, past, fits)) fits)
     ∙ number-filled piece (WORD_COLUMNS - length piece)
     ∙ ap (λ (z : ℕ). z * BASE ^ (WORD_COLUMNS - length piece)) (empty piece none)
     ∙ no_times (BASE ^ (WORD_COLUMNS - length piece))
@@ -100,7 +100,7 @@ word_behind rows from past fits =
     no_times : (z : ℕ) → 0 * z ≡ 0
     no_times z = omega arith
 
-    empty : (xs : List ℕ) → length xs ≡ 0 → number xs ≡ 0
+    empty : (xs : List ℕ) → length xs ≡ 0 → key_number xs ≡ 0
     empty [] is = refl
     empty (x ∷ xs) is = absurd (omega (arith, is))
 
@@ -110,26 +110,27 @@ next_word n xs =
     ap (λ (z : ℕ). drop z xs) (let e : WORD_COLUMNS * suc n ≡ WORD_COLUMNS + WORD_COLUMNS * n = omega arith in e)
     ∙ sym (drop-drop (WORD_COLUMNS * n) WORD_COLUMNS xs)
 
-word_at : (n w : ℕ) (xs : List ℕ) (d : ℕ) → w < n → get_or (words n xs) w d ≡ number (take WORD_COLUMNS (drop (WORD_COLUMNS * w) xs))
+word_at : (n w : ℕ) (xs : List ℕ) (d : ℕ) → w < n → get_or (words n xs) w d ≡ key_number (take WORD_COLUMNS (drop (WORD_COLUMNS * w) xs))
 word_at zero w xs d lt = absurd (omega (arith, lt))
 word_at (suc n) zero xs d lt = refl
 word_at (suc n) (suc w) xs d lt =
-    word_at n w (drop WORD_COLUMNS xs) d (omega (arith, lt)) ∙ ap (λ zs. number (take WORD_COLUMNS zs)) (sym (next_word w xs))
+    word_at n w (drop WORD_COLUMNS xs) d (omega (arith, lt)) ∙ ap (λ zs. key_number (take WORD_COLUMNS zs)) (sym (next_word w xs))
 
 -- one more word in front of zeros
-one_more : (n k word : ℕ) (xs : List ℕ) → word ≡ number (take WORD_COLUMNS (drop (WORD_COLUMNS * n) xs))
+one_more : (n k word : ℕ) (xs : List ℕ) → word ≡ key_number (take WORD_COLUMNS (drop (WORD_COLUMNS * n) xs))
     → slice_set (words n xs ++ replicate (suc k) 0) n word ≡ words (suc n) xs ++ replicate k 0
 one_more zero k word xs is = ap (λ (z : ℕ). z ∷ replicate k 0) is
 one_more (suc n) k word xs is =
-    ap (λ zs. number (take WORD_COLUMNS xs) ∷ zs) (one_more n k word (drop WORD_COLUMNS xs) (is ∙ ap (λ zs. number (take WORD_COLUMNS zs)) (next_word n xs)))
+    ap (λ zs. key_number (take WORD_COLUMNS xs) ∷ zs)
+    (one_more n k word (drop WORD_COLUMNS xs) (is ∙ ap (λ zs. key_number (take WORD_COLUMNS zs)) (next_word n xs)))
 
 pub word_more : (rows ws : List ℕ) (place word : ℕ) → place < WORDS → ws ≡ words place (filled rows) ++ replicate (WORDS - place) 0
-    → word ≡ number (take WORD_COLUMNS (drop (place * WORD_COLUMNS) (filled rows)))
+    → word ≡ key_number (take WORD_COLUMNS (drop (place * WORD_COLUMNS) (filled rows)))
     → slice_set ws place word ≡ words (place + 1) (filled rows) ++ replicate (WORDS - (place + 1)) 0
 word_more rows ws place word lt is same =
     ap (λ zs. slice_set zs place word) (is ∙ ap (λ (k : ℕ). words place (filled rows) ++ replicate k 0) left)
     ∙ one_more place (WORDS - (place + 1)) word (filled rows)
-    (same ∙ ap (λ (k : ℕ). number (take WORD_COLUMNS (drop k (filled rows)))) (mul_comm place WORD_COLUMNS))
+    (same ∙ ap (λ (k : ℕ). key_number (take WORD_COLUMNS (drop k (filled rows)))) (mul_comm place WORD_COLUMNS))
     ∙ ap (λ (n : ℕ). words n (filled rows) ++ replicate (WORDS - (place + 1)) 0) (sym (add-one place))
   where
     left : WORDS - place ≡ suc (WORDS - (place + 1))
@@ -144,10 +145,10 @@ none_behind (suc n) from rows past fits =
     (ap (λ zs. words n zs) (drop-drop WORD_COLUMNS from (filled rows))
     ∙ none_behind n (from + WORD_COLUMNS) rows (omega (arith, past)) (omega (arith, fits)))
 
-pub short_words_of : (rows : List ℕ) → length rows ≤ WORD_COLUMNS → number (take WORD_COLUMNS (filled rows)) ∷ replicate (WORDS - 1) 0 ≡ words_of rows
-short_words_of rows le = ap (λ zs. number (take WORD_COLUMNS (filled rows)) ∷ zs) (sym (none_behind (WORDS - 1) WORD_COLUMNS rows le (omega arith)))
+pub short_words_of : (rows : List ℕ) → length rows ≤ WORD_COLUMNS → key_number (take WORD_COLUMNS (filled rows)) ∷ replicate (WORDS - 1) 0 ≡ words_of rows
+short_words_of rows le = ap (λ zs. key_number (take WORD_COLUMNS (filled rows)) ∷ zs) (sym (none_behind (WORDS - 1) WORD_COLUMNS rows le (omega arith)))
 
-pub first_word : (rows : List ℕ) (word : ℕ) → length rows ≤ WORD_COLUMNS → word ≡ number (take WORD_COLUMNS (filled rows))
+pub first_word : (rows : List ℕ) (word : ℕ) → length rows ≤ WORD_COLUMNS → word ≡ key_number (take WORD_COLUMNS (filled rows))
     → slice_set (replicate WORDS 0) 0 word ≡ words_of rows
 first_word rows word le is = ap (λ (z : ℕ). z ∷ replicate (WORDS - 1) 0) is ∙ short_words_of rows le
 

@@ -9,11 +9,11 @@ use Rattle.std.specs.declared.cmp.Ordering.{Ordering}
 use Rattle.grid_core.specs.Diagram.{Diagram, IsGrid, size}
 use Rattle.grid_keys.specs.declared.key.Packed.{Packed}
 use Rattle.grid_keys.specs.declared.key.TheConstants.{BASE, WORD_COLUMNS, WORDS}
-use Rattle.grid_keys.specs.Numbers.{number_to}
+use Rattle.grid_keys.specs.KeyNumbers.{number_to}
 
 -- the number with these digits to the base of keys, the highest first
-abbrev pub number : List ℕ → ℕ
-number digits = number_to BASE digits
+abbrev pub key_number : List ℕ → ℕ
+key_number digits = number_to BASE digits
 
 -- the rows by column, with 0 for each further column that the words of a key have
 abbrev pub filled : List ℕ → List ℕ
@@ -22,7 +22,7 @@ filled rows = rows ++ replicate (WORDS * WORD_COLUMNS - length rows) 0
 -- the first words of some digits: each is the number of as many digits as a word has columns
 abbrev pub words : ℕ → List ℕ → List ℕ
 words zero digits = []
-words (suc n) digits = number (take WORD_COLUMNS digits) ∷ words n (drop WORD_COLUMNS digits)
+words (suc n) digits = key_number (take WORD_COLUMNS digits) ∷ words n (drop WORD_COLUMNS digits)
 
 -- the words of the rows of a kind
 abbrev pub words_of : List ℕ → List ℕ

@@ -1,7 +1,7 @@
 pub mod Translation
 pub mod Shifts
 pub mod Order
-pub mod Numbers
+pub mod KeyNumbers
 pub mod Key
 pub mod Brief
 pub mod CanonicalForm

@@ -7,7 +7,7 @@ ghost use Rattle.std.proofs.Common.{rules};
 ghost use Rattle.grid_core.specs.declared.grid.TheConstants.{MAX_SIZE};
 ghost use Rattle.grid_core.specs.Diagram.{Diagram, IsGrid};
 ghost use Rattle.grid_keys.specs.Translation.{translate};
-ghost use Rattle.grid_keys.specs.Key.{number, filled, words_of, key_of, size_of, IsKeyOf, compare_keys, mixed, more_hashed, digit_at};
+ghost use Rattle.grid_keys.specs.Key.{key_number, filled, words_of, key_of, size_of, IsKeyOf, compare_keys, mixed, more_hashed, digit_at};
 
 use crate::translation::translated_rows;
 use arrayvec::ArrayVec;
@@ -158,7 +158,7 @@ fn word_at(rows: &[u8], from: usize) -> u128
     requires count { length rows.now ≤ MAX_SIZE }
     requires from { from + WORD_COLUMNS ≤ WORDS * WORD_COLUMNS }
     requires inside { All (λ r. r < BASE) rows.now }
-    ensures { result ≡ number (take WORD_COLUMNS (drop from (filled rows.now))) }
+    ensures { result ≡ key_number (take WORD_COLUMNS (drop from (filled rows.now))) }
 {
     if rows.len() <= from {
         return 0;
@@ -172,7 +172,7 @@ fn word_at(rows: &[u8], from: usize) -> u128
 fn number(rows: &[u8]) -> u128
     requires count { length rows.now ≤ WORD_COLUMNS }
     requires inside { All (λ r. r < BASE) rows.now }
-    ensures { result ≡ number rows.now }
+    ensures { result ≡ key_number rows.now }
 {
     let mut value = 0;
     for row in rows {

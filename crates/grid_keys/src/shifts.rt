@@ -1,7 +1,7 @@
 //! The shifts of a translate, written as moves.
 ghost use Rattle.std.specs.Prelude.{◌≡◌, ◌++◌, reverse, IfOk, OnErr};
 ghost use Rattle.grid_moves.specs.PutsPart.{PutsPart};
-ghost use Rattle.grid_keys.specs.Shifts.{column_shift, row_shift, shift_moves};
+ghost use Rattle.grid_keys.specs.Shifts.{needed_column_shift, needed_row_shift, shift_moves};
 
 use grid_moves::Move;
 use memory_core::OutOfMemory;
@@ -31,8 +31,8 @@ pub fn push_shifts_back(list: &mut Vec<Move>, columns: u8, rows: u8) -> Result<(
 /// Puts the shift of columns at the end, where it is not by 0.
 #[tactic(auto, using(grid_moves::proofs::PutParts::on_err, crate::proofs::PutShifts::no_columns))]
 fn push_columns(list: &mut Vec<Move>, columns: u8) -> Result<(), OutOfMemory>
-    ensures list { IfOk result (λ _. list.new.items ≡ list.old.items ++ column_shift columns) }
-    ensures part { OnErr result (PutsPart list.old.items list.new.items (column_shift columns)) }
+    ensures list { IfOk result (λ _. list.new.items ≡ list.old.items ++ needed_column_shift columns) }
+    ensures part { OnErr result (PutsPart list.old.items list.new.items (needed_column_shift columns)) }
 {
     if columns > 0 {
         list.push(Move::ShiftColumns(columns))?;
@@ -43,8 +43,8 @@ fn push_columns(list: &mut Vec<Move>, columns: u8) -> Result<(), OutOfMemory>
 /// Puts the shift of rows at the end, where it is not by 0.
 #[tactic(auto, using(grid_moves::proofs::PutParts::on_err, crate::proofs::PutShifts::no_rows))]
 fn push_rows(list: &mut Vec<Move>, rows: u8) -> Result<(), OutOfMemory>
-    ensures list { IfOk result (λ _. list.new.items ≡ list.old.items ++ row_shift rows) }
-    ensures part { OnErr result (PutsPart list.old.items list.new.items (row_shift rows)) }
+    ensures list { IfOk result (λ _. list.new.items ≡ list.old.items ++ needed_row_shift rows) }
+    ensures part { OnErr result (PutsPart list.old.items list.new.items (needed_row_shift rows)) }
 {
     if rows > 0 {
         list.push(Move::ShiftRows(rows))?;

@@ -8,7 +8,7 @@ use Rattle.grid_core.specs.Diagram.{Diagram, size}
 use Rattle.grid_core.specs.Trefoils.{right_trefoil, left_trefoil}
 use Rattle.grid_core.specs.Parts.{bottoms, covers, is_up, is_rightward, ends, column_span}
 use Rattle.grid_core.specs.Crossing.{crosses, sign, is_positive}
-use Rattle.grid_core.specs.Fault.{first_fault}
+use Rattle.grid_core.specs.Fault.{first_grid_fault}
 
 abbrev pub unknot : Diagram
 unknot = record { x = 0 ∷ 1 ∷ []; o = 1 ∷ 0 ∷ [] }
@@ -33,28 +33,28 @@ ends_of_top = refl
 span_of_last : column_span right_trefoil 4 ≡ record { low = 0; high = 3 }
 span_of_last = refl
 
-trefoil_is_fine : first_fault right_trefoil.x right_trefoil.o ≡ None
+trefoil_is_fine : first_grid_fault right_trefoil.x right_trefoil.o ≡ None
 trefoil_is_fine = refl
 
-one_column : first_fault (0 ∷ []) (0 ∷ []) ≡ Some Size
+one_column : first_grid_fault (0 ∷ []) (0 ∷ []) ≡ Some Size
 one_column = refl
 
-unlike_lengths : first_fault (0 ∷ 1 ∷ []) (1 ∷ []) ≡ Some Length
+unlike_lengths : first_grid_fault (0 ∷ 1 ∷ []) (1 ∷ []) ≡ Some Length
 unlike_lengths = refl
 
-too_high : first_fault (0 ∷ 1 ∷ []) (1 ∷ 2 ∷ []) ≡ Some (Range 1)
+too_high : first_grid_fault (0 ∷ 1 ∷ []) (1 ∷ 2 ∷ []) ≡ Some (Range 1)
 too_high = refl
 
-twice : first_fault (0 ∷ 1 ∷ 1 ∷ []) (1 ∷ 0 ∷ 2 ∷ []) ≡ Some (Repeat 2)
+twice : first_grid_fault (0 ∷ 1 ∷ 1 ∷ []) (1 ∷ 0 ∷ 2 ∷ []) ≡ Some (Repeat 2)
 twice = refl
 
-two_in_a_cell : first_fault (0 ∷ 1 ∷ 2 ∷ []) (1 ∷ 0 ∷ 2 ∷ []) ≡ Some (Same 2)
+two_in_a_cell : first_grid_fault (0 ∷ 1 ∷ 2 ∷ []) (1 ∷ 0 ∷ 2 ∷ []) ≡ Some (Same 2)
 two_in_a_cell = refl
 
-range_before_repeat : first_fault (0 ∷ 1 ∷ 1 ∷ []) (0 ∷ 3 ∷ 2 ∷ []) ≡ Some (Range 1)
+range_before_repeat : first_grid_fault (0 ∷ 1 ∷ 1 ∷ []) (0 ∷ 3 ∷ 2 ∷ []) ≡ Some (Range 1)
 range_before_repeat = refl
 
-repeat_before_same : first_fault (0 ∷ 1 ∷ 1 ∷ []) (0 ∷ 0 ∷ 2 ∷ []) ≡ Some (Repeat 1)
+repeat_before_same : first_grid_fault (0 ∷ 1 ∷ 1 ∷ []) (0 ∷ 0 ∷ 2 ∷ []) ≡ Some (Repeat 1)
 repeat_before_same = refl
 
 first_column_covers_row_three : covers right_trefoil 0 3 ≡ true
@@ -69,10 +69,10 @@ fourth_column_is_up = refl
 first_column_is_down : is_up right_trefoil 0 ≡ false
 first_column_is_down = refl
 
-left_trefoil_is_fine : first_fault left_trefoil.x left_trefoil.o ≡ None
+left_trefoil_is_fine : first_grid_fault left_trefoil.x left_trefoil.o ≡ None
 left_trefoil_is_fine = refl
 
-closure_is_fine : first_fault closure.x closure.o ≡ None
+closure_is_fine : first_grid_fault closure.x closure.o ≡ None
 closure_is_fine = refl
 
 bottoms_of_closure : bottoms closure ≡ 2

@@ -6,34 +6,34 @@ use Rattle.grid_moves.specs.declared.step.Move.TheVariants.{ShiftColumns, ShiftR
 use Rattle.grid_core.specs.declared.mark.Kind.TheVariants.{Cross}
 use Rattle.grid_core.specs.declared.mark.Corner.TheVariants.{LowLeft}
 use Rattle.grid_moves.specs.declared.step.MoveFault.TheVariants.{Range, Touching, Interleaved, Block, Apart}
-use Rattle.grid_moves.specs.MoveFault.{first_fault}
+use Rattle.grid_moves.specs.MoveFault.{first_move_fault}
 use Rattle.grid_moves.specs.Tidy.{is_tidy}
 
-nested : first_fault (record { x = 0 ∷ 1 ∷ 2 ∷ 3 ∷ []; o = 3 ∷ 2 ∷ 0 ∷ 1 ∷ [] }) (ExchangeColumns 0) ≡ None
+nested : first_move_fault (record { x = 0 ∷ 1 ∷ 2 ∷ 3 ∷ []; o = 3 ∷ 2 ∷ 0 ∷ 1 ∷ [] }) (ExchangeColumns 0) ≡ None
 nested = refl
 
-interleaved : first_fault right_trefoil (ExchangeColumns 0) ≡ Some Interleaved
+interleaved : first_move_fault right_trefoil (ExchangeColumns 0) ≡ Some Interleaved
 interleaved = refl
 
-touching : first_fault (record { x = 1 ∷ 0 ∷ 2 ∷ []; o = 0 ∷ 2 ∷ 1 ∷ [] }) (ExchangeColumns 0) ≡ Some Touching
+touching : first_move_fault (record { x = 1 ∷ 0 ∷ 2 ∷ []; o = 0 ∷ 2 ∷ 1 ∷ [] }) (ExchangeColumns 0) ≡ Some Touching
 touching = refl
 
-past_the_end : first_fault unknot (ExchangeColumns 1) ≡ Some Range
+past_the_end : first_move_fault unknot (ExchangeColumns 1) ≡ Some Range
 past_the_end = refl
 
-both_rows_shared : first_fault unknot (SlideColumns 0) ≡ Some Touching
+both_rows_shared : first_move_fault unknot (SlideColumns 0) ≡ Some Touching
 both_rows_shared = refl
 
-slide_past_the_end : first_fault unknot (SlideColumns 1) ≡ Some Range
+slide_past_the_end : first_move_fault unknot (SlideColumns 1) ≡ Some Range
 slide_past_the_end = refl
 
-no_column_shared : first_fault right_trefoil (SlideRows 0) ≡ Some Apart
+no_column_shared : first_move_fault right_trefoil (SlideRows 0) ≡ Some Apart
 no_column_shared = refl
 
-two_marks : first_fault right_trefoil (Destabilise 0 1) ≡ Some (Block 2)
+two_marks : first_move_fault right_trefoil (Destabilise 0 1) ≡ Some (Block 2)
 two_marks = refl
 
-four_marks : first_fault unknot (Destabilise 0 0) ≡ Some (Block 4)
+four_marks : first_move_fault unknot (Destabilise 0 0) ≡ Some (Block 4)
 four_marks = refl
 
 -- ---- tidy lists

@@ -8,14 +8,14 @@ use Rattle.grid_core.specs.Trefoils.{right_trefoil}
 use Rattle.grid_laws.proofs.WorkedDiagrams.{unknot}
 use Rattle.grid_moves.specs.declared.step.Move.{Move}
 use Rattle.grid_moves.specs.declared.step.Move.TheVariants.{ShiftRows, ExchangeColumns, ExchangeRows, SlideColumns, SlideRows, Stabilise, Destabilise}
-use Rattle.grid_moves.specs.MoveFault.{first_fault}
+use Rattle.grid_moves.specs.MoveFault.{first_move_fault}
 use Rattle.grid_moves.specs.Joining.{Joins}
 use Rattle.grid_moves.proofs.OneResult.{moved, moved_step}
 
 -- every move of the list is legal in its turn
 data Legal : Diagram → List Move → Type 0 where
   none : {d : Diagram} → Legal d []
-  more : {d : Diagram} {move : Move} {moves : List Move} → first_fault d move ≡ None → Legal (moved move d) moves → Legal d (move ∷ moves)
+  more : {d : Diagram} {move : Move} {moves : List Move} → first_move_fault d move ≡ None → Legal (moved move d) moves → Legal d (move ∷ moves)
 
 abbrev pub moved_all : List Move → Diagram → Diagram
 moved_all [] d = d

@@ -6,13 +6,13 @@ ghost use Rattle.grid_core.specs.Corners.{corners};
 ghost use Rattle.grid_core.specs.Span.{IsBetween};
 ghost use Rattle.grid_core.specs.Parts.{column_of, column_span, ends, column_lows, column_highs, row_lows, row_highs, covers, is_up, is_rightward, is_bottom};
 ghost use Rattle.grid_core.specs.Crossing.{crosses, column_direction, row_direction, turned_left, sign, is_positive};
-ghost use Rattle.grid_core.specs.Fault.{first_fault};
+ghost use Rattle.grid_core.specs.Fault.{first_grid_fault};
 
 use grid_core::Kind;
 
 /// Two lists are a grid exactly where they have no fault.
 pub fn a_grid_is_what_has_no_fault()
-    ensures { (x o : List ℕ) → (first_fault x o ≡ None) ↔ IsGrid (record { x = x; o = o }) }
+    ensures { (x o : List ℕ) → (first_grid_fault x o ≡ None) ↔ IsGrid (record { x = x; o = o }) }
 {}
 
 /// A grid said by its lists is a grid said by its marks.

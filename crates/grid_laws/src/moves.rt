@@ -7,7 +7,7 @@ ghost use Rattle.grid_moves.specs.Exchange.{MayExchange};
 ghost use Rattle.grid_moves.specs.Exchanged.{columns_exchanged, rows_exchanged};
 ghost use Rattle.grid_moves.specs.Inverse.{inverse_of};
 ghost use Rattle.grid_moves.specs.Joining.{Joins, JoinsWithin, StopsAt, Equivalent, WithinCap};
-ghost use Rattle.grid_moves.specs.MoveFault.{first_fault};
+ghost use Rattle.grid_moves.specs.MoveFault.{first_move_fault};
 ghost use Rattle.grid_moves.specs.Slide.{MaySlide};
 ghost use Rattle.grid_moves.specs.Step.{Step};
 ghost use Rattle.grid_moves.specs.Undoing.{Undone};
@@ -17,8 +17,8 @@ use grid_moves::{Move, MoveFault};
 
 /// A move leads somewhere exactly where it has no fault, and then to one diagram, which is a grid.
 pub fn a_legal_move_has_exactly_one_result()
-    ensures one { (d : Diagram) (move : Move) → IsGrid d → first_fault d move ≡ None → (e : Diagram) × Step d move e }
-    ensures legal { (d : Diagram) (move : Move) (e : Diagram) → Step d move e → first_fault d move ≡ None }
+    ensures one { (d : Diagram) (move : Move) → IsGrid d → first_move_fault d move ≡ None → (e : Diagram) × Step d move e }
+    ensures legal { (d : Diagram) (move : Move) (e : Diagram) → Step d move e → first_move_fault d move ≡ None }
     ensures single { (d : Diagram) (move : Move) (e f : Diagram) → Step d move e → Step d move f → e ≡ f }
     ensures grid { (d : Diagram) (move : Move) (e : Diagram) → Step d move e → IsGrid e }
 {}
@@ -88,7 +88,7 @@ pub fn a_destabilisation_is_the_inverse_relation()
 pub fn a_block_comes_from_one_stabilisation()
     ensures one { (c r : ℕ) (d : Diagram)
         → IsGrid d
-        → first_fault d (Move.Destabilise c r) ≡ None
+        → first_move_fault d (Move.Destabilise c r) ≡ None
         → (e : Diagram)
         × ((kind : Kind) × ((corner : Corner) × (Step e (Move.Stabilise c kind corner) d × (row_of kind e c ≡ r)))) }
     ensures single { (c r : ℕ) (d e f : Diagram) (kind kind' : Kind) (corner corner' : Corner)

@@ -23,7 +23,7 @@ use Rattle.grid_moves.specs.Stabilisation.{Stabilises}
 use Rattle.grid_moves.specs.Destabilisation.{Destabilises, marks_in_block}
 use Rattle.grid_moves.specs.DoubleRows.{column_in_new_row}
 use Rattle.grid_moves.specs.Step.{Step, Moves}
-use Rattle.grid_moves.specs.MoveFault.{first_fault, shift_fault, exchange_fault, slide_fault, block_fault}
+use Rattle.grid_moves.specs.MoveFault.{first_move_fault, shift_fault, exchange_fault, slide_fault, block_fault}
 use Rattle.grid_moves.proofs.Renumbering.{unchanged-permutes, renumbered_once}
 use Rattle.grid_moves.proofs.Exchanged.{exchanged-permutes, columns_exchanged-step, rows_exchanged-step}
 use Rattle.grid_moves.proofs.Slid.{columns_slid-step, rows_slid-step}
@@ -87,7 +87,7 @@ slide_legal s t free =
     cond-false (share_both_ends s t) (Some Touching) (cond (share_an_end s t) None (Some Apart)) free.not_both
     ∙ cond-true (share_an_end s t) None (Some Apart) free.shared
 
-moves_legal : (move : Move) (d e : Diagram) → Moves move d e → first_fault d move ≡ None
+moves_legal : (move : Move) (d e : Diagram) → Moves move d e → first_move_fault d move ≡ None
 moves_legal (ShiftColumns k) d e a = shift_legal (size d) k a.least a.most
 moves_legal (ShiftRows k) d e a = shift_legal (size d) k a.least a.most
 moves_legal (ExchangeColumns c) d e a =
@@ -110,7 +110,7 @@ moves_legal (Destabilise c r) d e a =
     (and_from (nat_lt (c + 1) (size d)) (nat_lt (r + 1) (size d)) (lt-ltb (c + 1) (size d) a.columns) (lt-ltb (r + 1) (size d) a.rows))
     ∙ cond-true (marks_in_block d c r == 3) None (Some (Block (marks_in_block d c r))) (eq-eqb (marks_in_block d c r) 3 a.three)
 
-pub step_legal : (d : Diagram) (move : Move) (e : Diagram) → Step d move e → first_fault d move ≡ None
+pub step_legal : (d : Diagram) (move : Move) (e : Diagram) → Step d move e → first_move_fault d move ≡ None
 step_legal d move e step = moves_legal move d e step.marks
 
 -- a legal move leads somewhere
@@ -129,7 +129,7 @@ moved (SlideRows r) d = rows_exchanged r d
 moved (Stabilise c kind corner) d = stabilised c kind corner d
 moved (Destabilise c r) d = destabilised c d
 
-pub moved_step : (d : Diagram) (move : Move) → IsGrid d → first_fault d move ≡ None → Step d move (moved move d)
+pub moved_step : (d : Diagram) (move : Move) → IsGrid d → first_move_fault d move ≡ None → Step d move (moved move d)
 moved_step d (ShiftColumns k) grid e =
     let ok = and_parts (nat_lt 0 k) (nat_lt k (size d)) (kept_open (nat_lt 0 k && nat_lt k (size d)) None Range e).0 in
     columns_shifted-step k d grid (ltb-true 0 k ok.0) (ltb-true k (size d) ok.1)
@@ -158,7 +158,7 @@ moved_step d (Destabilise c r) grid e =
     let three = kept_open (marks_in_block d c r == 3) None (Block (marks_in_block d c r)) ok.1 in
     destabilised-step c r d grid (ltb-true (c + 1) (size d) inside.0) (ltb-true (r + 1) (size d) inside.1) (eqb-true (marks_in_block d c r) 3 three.0)
 
-pub step_exists : (d : Diagram) (move : Move) → IsGrid d → first_fault d move ≡ None → (e : Diagram) × Step d move e
+pub step_exists : (d : Diagram) (move : Move) → IsGrid d → first_move_fault d move ≡ None → (e : Diagram) × Step d move e
 step_exists d move grid e = (moved move d, moved_step d move grid e)
 
 -- so the result of a step is the list form
@@ -166,7 +166,7 @@ pub step_moved : (d : Diagram) (move : Move) (e : Diagram) → Step d move e →
 step_moved d move e step = step_once d move e (moved move d) step (moved_step d move step.before (step_legal d move e step))
 
 -- who makes the result of each step, or answers the fault, leaves what each step leads to
-pub answers_in_place : {A : Type 0} (d : Diagram) (move : Move) (answer : Result A MoveFault) (f : Diagram) → result_err answer ≡ first_fault d move
+pub answers_in_place : {A : Type 0} (d : Diagram) (move : Move) (answer : Result A MoveFault) (f : Diagram) → result_err answer ≡ first_move_fault d move
     → OnOk answer (Step d move f) → (e : Diagram) → Step d move e → f ≡ e
 answers_in_place d move (Ok x) f fault moved e step = step_once d move f e moved step
 answers_in_place d move (Err z) f fault moved e step = absurd (let no : ◌≡◌ {A = Option MoveFault} (Some z) None = fault ∙ step_legal d move e step in cc)

@@ -4,7 +4,7 @@ use Rattle.grid_core.specs.Diagram.{Diagram, IsGrid}
 use Rattle.grid_moves.specs.declared.step.Move.{Move}
 use Rattle.grid_moves.specs.declared.step.MoveFault.{MoveFault}
 use Rattle.grid_moves.specs.Step.{Step}
-use Rattle.grid_moves.specs.MoveFault.{first_fault}
+use Rattle.grid_moves.specs.MoveFault.{first_move_fault}
 use Rattle.grid_moves.specs.Joining.{Joins, StopsAt}
 use Rattle.grid_moves.proofs.OneResult.{step_once, step_legal, moved, moved_step}
 
@@ -15,15 +15,15 @@ joins_once (move ∷ moves) d e f one two =
 
 -- a legal first move has no fault
 legal_first : (d e here : Diagram) (first move : Move) (fault : MoveFault) → Step d first e → d ≡ here → ◌≡◌ {A = Option Move} (Some first) (Some move)
-    → first_fault here move ≡ Some fault → ⊥
+    → first_move_fault here move ≡ Some fault → ⊥
 legal_first d e here first move fault step at is illegal =
     let same : first ≡ move = cc in
-    let none : first_fault here move ≡ None = ap₂ (λ z m. first_fault z m) (sym at) (sym same) ∙ step_legal d first e step in
+    let none : first_move_fault here move ≡ None = ap₂ (λ z m. first_move_fault z m) (sym at) (sym same) ∙ step_legal d first e step in
     let no : ◌≡◌ {A = Option MoveFault} None (Some fault) = sym none ∙ illegal in
     cc
 
 stopped : (moves : List Move) (place : ℕ) (d e here : Diagram) (move : Move) (fault : MoveFault) → Joins d (take place moves) here
-    → slice_get moves place ≡ Some move → first_fault here move ≡ Some fault → Joins d moves e → ⊥
+    → slice_get moves place ≡ Some move → first_move_fault here move ≡ Some fault → Joins d moves e → ⊥
 stopped [] place d e here move fault joined next illegal whole = let no : ◌≡◌ {A = Option Move} None (Some move) = next in cc
 stopped (first ∷ moves) zero d e here move fault joined next illegal whole = legal_first d whole.0 here first move fault whole.1.0 joined next illegal
 stopped (first ∷ moves) (suc place) d e here move fault joined next illegal whole =
@@ -34,14 +34,15 @@ pub not_both : (moves : List Move) (d e : Diagram) (place : ℕ) (fault : MoveFa
 not_both moves d e place fault stop whole = stopped moves place d e stop.here stop.move fault stop.joined stop.next stop.illegal whole
 
 stops_same : (moves : List Move) (place place' : ℕ) (d here here' : Diagram) (move move' : Move) (fault fault' : MoveFault) → Joins d (take place moves) here
-    → slice_get moves place ≡ Some move → first_fault here move ≡ Some fault → Joins d (take place' moves) here' → slice_get moves place' ≡ Some move'
-    → first_fault here' move' ≡ Some fault' → (place ≡ place') × (fault ≡ fault')
+    → slice_get moves place ≡ Some move → first_move_fault here move ≡ Some fault → Joins d (take place' moves) here' → slice_get moves place' ≡ Some move'
+    → first_move_fault here' move' ≡ Some fault' → (place ≡ place') × (fault ≡ fault')
 stops_same [] place place' d here here' move move' fault fault' joined next illegal joined' next' illegal' =
     absurd (let no : ◌≡◌ {A = Option Move} None (Some move) = next in cc)
 stops_same (first ∷ moves) zero zero d here here' move move' fault fault' joined next illegal joined' next' illegal' =
     let same : ◌≡◌ {A = Option Move} (Some move) (Some move') = sym next ∙ next' in
     let moved : move ≡ move' = cc in
-    let faults : ◌≡◌ {A = Option MoveFault} (Some fault) (Some fault') = sym illegal ∙ ap₂ (λ z m. first_fault z m) (sym joined ∙ joined') moved ∙ illegal' in
+    let faults : ◌≡◌ {A = Option MoveFault} (Some fault) (Some fault') =
+    sym illegal ∙ ap₂ (λ z m. first_move_fault z m) (sym joined ∙ joined') moved ∙ illegal' in
     let one : fault ≡ fault' = cc in
     (refl, one)
 stops_same (first ∷ moves) zero (suc place') d here here' move move' fault fault' joined next illegal joined' next' illegal' =
@@ -67,7 +68,7 @@ some_or_none (Some x) = inr (x, refl)
 pub joins_or_stops : (moves : List Move) (d : Diagram) → IsGrid d
     → ((e : Diagram) × Joins d moves e) ⊎ ((place : ℕ) × ((fault : MoveFault) × StopsAt d moves place fault))
 joins_or_stops [] d grid = inl (d, refl)
-joins_or_stops (move ∷ moves) d grid = elim (some_or_none (first_fault d move)) [
+joins_or_stops (move ∷ moves) d grid = elim (some_or_none (first_move_fault d move)) [
   | inl legal ↦
       let step = moved_step d move grid legal in
       elim (joins_or_stops moves (moved move d) step.after) [

@@ -5,7 +5,7 @@ use Rattle.grid_core.specs.Diagram.{Diagram, size}
 use Rattle.grid_moves.specs.declared.step.Move.{Move}
 use Rattle.grid_moves.specs.Inverse.{inverse_of}
 use Rattle.grid_moves.specs.Step.{Step}
-use Rattle.grid_moves.specs.MoveFault.{first_fault}
+use Rattle.grid_moves.specs.MoveFault.{first_move_fault}
 use Rattle.grid_moves.specs.Joining.{Joins, JoinsWithin}
 use Rattle.grid_moves.proofs.OneResult.{step_once, step_legal}
 use Rattle.grid_moves.proofs.Undone.{step_undone}
@@ -56,10 +56,10 @@ undone_more moves k z d here next list after inverse lt undone step home is =
 
 -- of moves that join, each is legal where it stands
 pub legal_there : (moves : List Move) (k : ℕ) (z : Move) (d e here : Diagram) (back : List Move) → k < length moves → Undone d (take k moves) here back
-    → Joins d moves e → first_fault here (get_or moves k z) ≡ None
+    → Joins d moves e → first_move_fault here (get_or moves k z) ≡ None
 legal_there [] k z d e here back lt undone joined = absurd (omega arith)
 legal_there (move ∷ moves) zero z d e here back lt undone joined =
-    subst (λ (there : Diagram). first_fault there move ≡ None) undone.0 (step_legal d move joined.0 joined.1.0)
+    subst (λ (there : Diagram). first_move_fault there move ≡ None) undone.0 (step_legal d move joined.0 joined.1.0)
 legal_there (move ∷ moves) (suc k) z d e here back lt (f, (rest, (step, undone, is))) joined =
     legal_there moves k z f e here rest (omega arith) undone
     (subst (λ (there : Diagram). Joins there moves e) (step_once d move joined.0 f joined.1.0 step) joined.1.1)

@@ -5,7 +5,7 @@ use Rattle.std.specs.Prelude.{◌≡◌, ◌≤◌, ℕ, List, [], ◌∷◌, ta
 use Rattle.grid_core.specs.Diagram.{Diagram, size}
 use Rattle.grid_moves.specs.declared.step.Move.{Move}
 use Rattle.grid_moves.specs.declared.step.MoveFault.{MoveFault}
-use Rattle.grid_moves.specs.MoveFault.{first_fault}
+use Rattle.grid_moves.specs.MoveFault.{first_move_fault}
 use Rattle.grid_moves.specs.Step.{Step}
 
 -- the moves, one after another, lead from d to e; no move leads from d to d
@@ -32,4 +32,4 @@ pub record StopsAt (d : Diagram) (moves : List Move) (place : ℕ) (fault : Move
   pub joined : Joins d (take place moves) here
   pub move : Move
   pub next : slice_get moves place ≡ Some move
-  pub illegal : first_fault here move ≡ Some fault
+  pub illegal : first_move_fault here move ≡ Some fault

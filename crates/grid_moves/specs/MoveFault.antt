@@ -29,15 +29,15 @@ abbrev pub block_fault : ℕ → Option MoveFault
 block_fault marks = if marks == 3 then None else Some (Block marks)
 
 -- out of range first, then the neighbours, the block, the size
-abbrev pub first_fault : Diagram → Move → Option MoveFault
-first_fault d (ShiftColumns k) = shift_fault (size d) k
-first_fault d (ShiftRows k) = shift_fault (size d) k
-first_fault d (ExchangeColumns c) =
+abbrev pub first_move_fault : Diagram → Move → Option MoveFault
+first_move_fault d (ShiftColumns k) = shift_fault (size d) k
+first_move_fault d (ShiftRows k) = shift_fault (size d) k
+first_move_fault d (ExchangeColumns c) =
     if nat_lt (c + 1) (size d) then exchange_fault (column_span d c) (column_span d (c + 1)) else Some Range
-first_fault d (ExchangeRows r) = if nat_lt (r + 1) (size d) then exchange_fault (ends d r) (ends d (r + 1)) else Some Range
-first_fault d (SlideColumns c) = if nat_lt (c + 1) (size d) then slide_fault (column_span d c) (column_span d (c + 1)) else Some Range
-first_fault d (SlideRows r) = if nat_lt (r + 1) (size d) then slide_fault (ends d r) (ends d (r + 1)) else Some Range
-first_fault d (Stabilise c kind corner) =
+first_move_fault d (ExchangeRows r) = if nat_lt (r + 1) (size d) then exchange_fault (ends d r) (ends d (r + 1)) else Some Range
+first_move_fault d (SlideColumns c) = if nat_lt (c + 1) (size d) then slide_fault (column_span d c) (column_span d (c + 1)) else Some Range
+first_move_fault d (SlideRows r) = if nat_lt (r + 1) (size d) then slide_fault (ends d r) (ends d (r + 1)) else Some Range
+first_move_fault d (Stabilise c kind corner) =
     if nat_lt c (size d) then if nat_lt (size d) MAX_SIZE then None else Some Full else Some Range
-first_fault d (Destabilise c r) =
+first_move_fault d (Destabilise c r) =
     if nat_lt (c + 1) (size d) && nat_lt (r + 1) (size d) then block_fault (marks_in_block d c r) else Some Range

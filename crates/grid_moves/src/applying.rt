@@ -5,7 +5,7 @@ ghost use Rattle.grid_core.specs.Diagram.{Diagram};
 ghost use Rattle.grid_moves.specs.Inverse.{inverse_of};
 ghost use Rattle.grid_moves.specs.Step.{Step};
 ghost use Rattle.grid_moves.specs.Joining.{Joins, StopsAt};
-ghost use Rattle.grid_moves.specs.MoveFault.{first_fault};
+ghost use Rattle.grid_moves.specs.MoveFault.{first_move_fault};
 
 use crate::destabilisation::{block_corner, block_kind, destabilise};
 use crate::exchange::{exchange_columns, exchange_rows};
@@ -18,7 +18,7 @@ use grid_core::Grid;
 /// The grid after one move, or the first reason why the move is not legal, in the order of `MoveFault`.
 /// Takes no memory, and time in proportion to the size.
 pub fn apply(grid: &Grid, step: Move) -> Result<Grid, MoveFault>
-    ensures fault { result_err result ≡ first_fault grid.now step }
+    ensures fault { result_err result ≡ first_move_fault grid.now step }
     ensures moved { IfOk result (λ e. Step grid.now step e) }
     ensures complete { (e : Diagram) → Step grid.now step e → result ≡ Ok e }
 {
@@ -30,7 +30,7 @@ pub fn apply(grid: &Grid, step: Move) -> Result<Grid, MoveFault>
 /// Makes the grid the one after a move, or answers the first reason why the move is not legal, as `apply` does, and leaves the grid as it
 /// is. Takes no memory, and time in proportion to the size.
 pub fn apply_in_place(grid: &mut Grid, step: Move) -> Result<(), MoveFault>
-    ensures fault { result_err result ≡ first_fault grid.old step }
+    ensures fault { result_err result ≡ first_move_fault grid.old step }
     ensures moved { OnOk result (Step grid.old step grid.new) }
     ensures complete { (e : Diagram) → Step grid.old step e → grid.new ≡ e }
     ensures kept { OnErr result (grid.new ≡ grid.old) }
@@ -53,7 +53,7 @@ pub fn apply_in_place(grid: &mut Grid, step: Move) -> Result<(), MoveFault>
 
 /// The move that leads from the result of a legal move back to the grid.
 pub fn inverse(grid: &Grid, step: Move) -> Move
-    requires { first_fault grid.now step ≡ None }
+    requires { first_move_fault grid.now step ≡ None }
     ensures back { (e : Diagram) → Step grid.now step e → Step e result grid.now }
     ensures is { result ≡ inverse_of grid.now step }
 {

@@ -11,7 +11,7 @@ ghost use Rattle.grid_moves.specs.BlockMarks.{is_block_row, block_kind, corner_i
 ghost use Rattle.grid_moves.specs.Narrowing.{narrowed};
 ghost use Rattle.grid_moves.specs.DoubleRows.{double_row, column_in_double_row};
 ghost use Rattle.grid_moves.specs.Step.{Step};
-ghost use Rattle.grid_moves.specs.MoveFault.{first_fault};
+ghost use Rattle.grid_moves.specs.MoveFault.{first_move_fault};
 
 use crate::step::{Move, MoveFault};
 use arrayvec::ArrayVec;
@@ -19,7 +19,7 @@ use grid_core::{Corner, Grid, Kind, Rows};
 
 /// Makes a grid the one of which a stabilisation makes the block at a column and a row.
 pub(crate) fn destabilise(grid: &mut Grid, column: u8, row: u8) -> Result<(), MoveFault>
-    ensures fault { result_err result ≡ first_fault grid.old (Move.Destabilise column row) }
+    ensures fault { result_err result ≡ first_move_fault grid.old (Move.Destabilise column row) }
     ensures moved { OnOk result (Step grid.old (Move.Destabilise column row) grid.new) }
     ensures kept { OnErr result (grid.new ≡ grid.old) }
 {
@@ -44,7 +44,7 @@ pub struct Narrowing {
 /// What the destabilisation at a column and a row takes out of a grid, or the fault for which `apply` refuses it: `Range` where the column
 /// or the row is the last one or beyond, else `Block` with the number of marks in the block, where that isn't three.
 pub fn narrowing_of(grid: &Grid, column: u8, row: u8) -> Result<Narrowing, MoveFault>
-    ensures fault { result_err result ≡ first_fault grid.now (Move.Destabilise column row) }
+    ensures fault { result_err result ≡ first_move_fault grid.now (Move.Destabilise column row) }
     ensures step { IfOk result (λ n. Step grid.now (Move.Destabilise column row) (narrowed n grid.now)) }
     ensures row { IfOk result (λ n. n.row < size grid.now) }
     ensures crosses { IfOk result (λ n. HasMark grid.now Cross n.crosses n.row) }

@@ -5,7 +5,7 @@ ghost use Rattle.std.specs.Result.{result_err};
 ghost use Rattle.grid_core.specs.Diagram.{size, rows_of};
 ghost use Rattle.grid_moves.specs.Exchange.{exchanged};
 ghost use Rattle.grid_moves.specs.Step.{Step};
-ghost use Rattle.grid_moves.specs.MoveFault.{first_fault, exchange_fault};
+ghost use Rattle.grid_moves.specs.MoveFault.{first_move_fault, exchange_fault};
 
 use crate::step::{Move, MoveFault};
 use arrayvec::ArrayVec;
@@ -13,7 +13,7 @@ use grid_core::{Grid, Kind, Rows, Span};
 
 /// Puts columns c and c + 1 in each other's place.
 pub(crate) fn exchange_columns(grid: &mut Grid, c: u8) -> Result<(), MoveFault>
-    ensures fault { result_err result ≡ first_fault grid.old (Move.ExchangeColumns c) }
+    ensures fault { result_err result ≡ first_move_fault grid.old (Move.ExchangeColumns c) }
     ensures moved { OnOk result (Step grid.old (Move.ExchangeColumns c) grid.new) }
     ensures kept { OnErr result (grid.new ≡ grid.old) }
 {
@@ -29,7 +29,7 @@ pub(crate) fn exchange_columns(grid: &mut Grid, c: u8) -> Result<(), MoveFault>
 
 /// Puts rows r and r + 1 in each other's place.
 pub(crate) fn exchange_rows(grid: &mut Grid, r: u8) -> Result<(), MoveFault>
-    ensures fault { result_err result ≡ first_fault grid.old (Move.ExchangeRows r) }
+    ensures fault { result_err result ≡ first_move_fault grid.old (Move.ExchangeRows r) }
     ensures moved { OnOk result (Step grid.old (Move.ExchangeRows r) grid.new) }
     ensures kept { OnErr result (grid.new ≡ grid.old) }
 {

@@ -4,7 +4,7 @@ ghost use Rattle.std.specs.Result.{result_err};
 ghost use Rattle.grid_core.specs.Diagram.{size, rows_of};
 ghost use Rattle.grid_moves.specs.Shift.{shifted};
 ghost use Rattle.grid_moves.specs.Step.{Step};
-ghost use Rattle.grid_moves.specs.MoveFault.{first_fault};
+ghost use Rattle.grid_moves.specs.MoveFault.{first_move_fault};
 
 use crate::step::{Move, MoveFault};
 use arrayvec::ArrayVec;
@@ -12,7 +12,7 @@ use grid_core::{Grid, Kind, Rows};
 
 /// Puts the k leftmost columns, in order, at the right end.
 pub(crate) fn shift_columns(grid: &mut Grid, k: u8) -> Result<(), MoveFault>
-    ensures fault { result_err result ≡ first_fault grid.old (Move.ShiftColumns k) }
+    ensures fault { result_err result ≡ first_move_fault grid.old (Move.ShiftColumns k) }
     ensures moved { OnOk result (Step grid.old (Move.ShiftColumns k) grid.new) }
     ensures kept { OnErr result (grid.new ≡ grid.old) }
 {
@@ -27,7 +27,7 @@ pub(crate) fn shift_columns(grid: &mut Grid, k: u8) -> Result<(), MoveFault>
 
 /// Puts the k lowest rows, in order, at the top.
 pub(crate) fn shift_rows(grid: &mut Grid, k: u8) -> Result<(), MoveFault>
-    ensures fault { result_err result ≡ first_fault grid.old (Move.ShiftRows k) }
+    ensures fault { result_err result ≡ first_move_fault grid.old (Move.ShiftRows k) }
     ensures moved { OnOk result (Step grid.old (Move.ShiftRows k) grid.new) }
     ensures kept { OnErr result (grid.new ≡ grid.old) }
 {

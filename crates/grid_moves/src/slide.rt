@@ -2,7 +2,7 @@
 ghost use Rattle.std.specs.Prelude.{◌≡◌, OnOk, OnErr};
 ghost use Rattle.std.specs.Result.{result_err};
 ghost use Rattle.grid_moves.specs.Step.{Step};
-ghost use Rattle.grid_moves.specs.MoveFault.{first_fault, slide_fault};
+ghost use Rattle.grid_moves.specs.MoveFault.{first_move_fault, slide_fault};
 
 use crate::exchange::{exchanged_rows, swapped_columns};
 use crate::step::{Move, MoveFault};
@@ -10,7 +10,7 @@ use grid_core::{Grid, Kind, Span};
 
 /// Puts columns c and c + 1, which share one row, in each other's place.
 pub(crate) fn slide_columns(grid: &mut Grid, c: u8) -> Result<(), MoveFault>
-    ensures fault { result_err result ≡ first_fault grid.old (Move.SlideColumns c) }
+    ensures fault { result_err result ≡ first_move_fault grid.old (Move.SlideColumns c) }
     ensures moved { OnOk result (Step grid.old (Move.SlideColumns c) grid.new) }
     ensures kept { OnErr result (grid.new ≡ grid.old) }
 {
@@ -26,7 +26,7 @@ pub(crate) fn slide_columns(grid: &mut Grid, c: u8) -> Result<(), MoveFault>
 
 /// Puts rows r and r + 1, which share one column, in each other's place.
 pub(crate) fn slide_rows(grid: &mut Grid, r: u8) -> Result<(), MoveFault>
-    ensures fault { result_err result ≡ first_fault grid.old (Move.SlideRows r) }
+    ensures fault { result_err result ≡ first_move_fault grid.old (Move.SlideRows r) }
     ensures moved { OnOk result (Step grid.old (Move.SlideRows r) grid.new) }
     ensures kept { OnErr result (grid.new ≡ grid.old) }
 {

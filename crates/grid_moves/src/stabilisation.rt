@@ -8,7 +8,7 @@ ghost use Rattle.grid_core.specs.Places.{lifted};
 ghost use Rattle.grid_moves.specs.DoubleRows.{column_in_new_row};
 ghost use Rattle.grid_moves.specs.Step.{Step};
 ghost use Rattle.grid_moves.specs.Widening.{widened};
-ghost use Rattle.grid_moves.specs.MoveFault.{first_fault};
+ghost use Rattle.grid_moves.specs.MoveFault.{first_move_fault};
 
 use crate::step::{Move, MoveFault};
 use arrayvec::ArrayVec;
@@ -21,7 +21,7 @@ pub(crate) fn stabilise(
     kind: Kind,
     corner: Corner,
 ) -> Result<(), MoveFault>
-    ensures fault { result_err result ≡ first_fault grid.old (Move.Stabilise column kind corner) }
+    ensures fault { result_err result ≡ first_move_fault grid.old (Move.Stabilise column kind corner) }
     ensures moved { OnOk result (Step grid.old (Move.Stabilise column kind corner) grid.new) }
     ensures kept { OnErr result (grid.new ≡ grid.old) }
 {

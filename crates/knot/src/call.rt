@@ -1,8 +1,8 @@
 //! A call over any reader and any writer: what `run` answers, with the number of its status as the exit status.
-ghost use Rattle.knot_words.specs.Numbers.{texts_of};
+ghost use Rattle.knot_words.specs.OptionNumbers.{texts_of};
 ghost use Rattle.knot_jobs.specs.Call.{call_of, as_many_as_asked};
 ghost use Rattle.knot_ports.specs.Change.{port_change};
-ghost use Rattle.knot.specs.Exit.{IsStatusOf};
+ghost use Rattle.knot.specs.KnotExit.{IsStatusOf};
 
 use knot_jobs::{Ports, Status, run};
 use knot_ports::{StdSink, StdSource};

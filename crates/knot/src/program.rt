@@ -1,7 +1,7 @@
 //! All that `main` does: a call of the words that came, and what is told beside its answer.
 ghost use Rattle.knot_jobs.specs.Call.{as_many_as_asked};
 ghost use Rattle.knot_ports.specs.Change.{port_change};
-ghost use Rattle.knot.specs.Exit.{came, EndsProgram};
+ghost use Rattle.knot.specs.KnotExit.{came, EndsKnot};
 
 use crate::call::call;
 use crate::tell::Tell;
@@ -22,7 +22,7 @@ pub(crate) fn program<T: Threads + Wait + Sync, R: Read + Drop, W: Write + Drop,
     ports: &mut Ports<StdSource<R>, StdSink<W>>,
     messages: &M,
 ) -> ExitCode
-    ensures { EndsProgram (came words) as_many_as_asked
+    ensures { EndsKnot (came words) as_many_as_asked
         (port_change R.remaining ports.old.source ports.new.source)
         (port_change W.contents ports.old.sink ports.new.sink) result }
 {

@@ -1,6 +1,6 @@
 //! All that `main` does: a ruling on the input, the usage line where words came, or nothing where the system gives no words.
 ghost use Rattle.knot_ports.specs.Change.{port_change};
-ghost use Rattle.knot_check.specs.Exit.{WritesUsage, EndsProgram};
+ghost use Rattle.knot_check.specs.CheckExit.{WritesUsage, EndsKnotCheck};
 
 use crate::call::call;
 use check_job::write_text;
@@ -21,7 +21,7 @@ pub(crate) fn program<R: Read + Drop, W: Write + Drop>(
     source: &mut StdSource<R>,
     sink: &mut StdSink<W>,
 ) -> ExitCode
-    ensures { EndsProgram words (port_change R.remaining source.old source.new) (port_change W.contents sink.old sink.new) result }
+    ensures { EndsKnotCheck words (port_change R.remaining source.old source.new) (port_change W.contents sink.old sink.new) result }
 {
     match words {
         Ok(words) if words.len() > 1 => refuse(sink),

@@ -7,7 +7,7 @@ use Rattle.cert_check.specs.declared.ruling.Ruling.TheVariants.{Accepted}
 use Rattle.knot_ports.specs.declared.limits.TheConstants.{MAX_CERTIFICATE}
 use Rattle.number_text.specs.declared.said.Said.{Said}
 use Rattle.number_text.specs.declared.said.Said.TheVariants as said
-use Rattle.evidence_core.specs.declared.cause.Ruling.TheVariants as numbers
+use Rattle.evidence_core.specs.declared.cause.NumberRuling.TheVariants as numbers
 use Rattle.verdict_laws.specs.VerdictDecision.{put_behind}
 use Rattle.certificate_check.specs.Decision.{IsWithinLimit, IsAccepted, IsDecision}
 use Rattle.certificate_check.proofs.Decisions.{decision_by_verdict}
@@ -20,7 +20,7 @@ use Rattle.check_job.specs.Answer.{AnswersCheck}
 use Rattle.check_job.proofs.Read.{pair_read_so}
 use Rattle.reply_text.specs.Lines.{ruling_line}
 use Rattle.reply_text.specs.Reply.{done, AnswersRead}
-use Rattle.knot_jobs.specs.Truth.{IsAcceptedByCheck, IsTrueIfDone}
+use Rattle.knot_jobs.specs.ReplyTruth.{IsAcceptedByCheck, IsTrueIfDone}
 
 -- what is read so is accepted
 abbrev IsReplied : Result Certificate TextFault → Type 0

@@ -4,7 +4,7 @@ use Rattle.std.specs.Prelude.{Vec}
 use Rattle.std.specs.declared.alloc.Global.{Global}
 use Rattle.knot_ports.specs.declared.status.Status.{Status}
 use Rattle.knot_ports.specs.Change.{Change, Drops}
-use Rattle.check_job.specs.Ports.{IsRead as IsReadWithin}
+use Rattle.check_job.specs.Ports.{IsReadWithin}
 use Rattle.knot_jobs.specs.Call.{Loses}
 use Rattle.knot_jobs.specs.Delivered.{IsRead}
 

@@ -22,7 +22,7 @@ use Rattle.search_jobs.specs.Reply.{without_search, plain_of, RepliesRead}
 use Rattle.knot_jobs.specs.Call.{with_workers}
 use Rattle.search_jobs.specs.Decide.{verdict_status}
 use Rattle.knot_words.specs.Limits.{limit_of}
-use Rattle.knot_jobs.specs.Answer.{IsOver, IsWithin, task_of, leaves_no_choice, IsInShape, IsBeyondColumns, Answers}
+use Rattle.knot_jobs.specs.Answer.{IsOver, IsNotOver, task_of, leaves_no_choice, IsInShape, IsBeyondColumns, Answers}
 
 abbrev status_of : PlainReply → Status
 status_of r = r.status
@@ -90,11 +90,11 @@ read_once answers (Err (bad.Limit n)) r r' each one two = same_plainly r r' one.
 read_once answers (Err bad.OutOfMemory) r r' each one two = absurd one.1
 
 -- an input is too long or is not
-pub not_over : (limit : Option ℕ) (bytes : List ℕ) → IsOver limit bytes → IsWithin limit bytes → ⊥
+pub not_over : (limit : Option ℕ) (bytes : List ℕ) → IsOver limit bytes → IsNotOver limit bytes → ⊥
 not_over (Some limit) bytes over within = omega (arith, over, within)
 not_over None bytes over within = over
 
-over_or_within : (limit : Option ℕ) (bytes : List ℕ) → IsOver limit bytes ⊎ IsWithin limit bytes
+over_or_within : (limit : Option ℕ) (bytes : List ℕ) → IsOver limit bytes ⊎ IsNotOver limit bytes
 over_or_within (Some limit) bytes = cases_lt limit (length bytes)
 over_or_within None bytes = inr tt
 
@@ -177,7 +177,7 @@ ok_defined : {A : Type 0} (job : Job) (answers : A → Reply → Type 0) (read :
 ok_defined job answers (Ok i) r each ok a = each i a
 ok_defined job answers (Err e) r each ok a = absurd (let wrong = ok in cc)
 
-pub defined_answer : (asked : Asked) (bytes : List ℕ) (r : Reply) → IsWithin (limit_of asked.job) bytes → IsInShape asked bytes
+pub defined_answer : (asked : Asked) (bytes : List ℕ) (r : Reply) → IsNotOver (limit_of asked.job) bytes → IsInShape asked bytes
     → Answers asked bytes r → IsDefined asked.job r
 defined_answer asked bytes r within shape answer = elim answer [
   | inl long ↦ absurd (not_over (limit_of asked.job) bytes long.0 within)

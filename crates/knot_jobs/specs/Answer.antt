@@ -27,20 +27,20 @@ IsOver (Some limit) bytes = limit < length bytes
 IsOver None bytes = ⊥
 
 -- there are not more; without a limit, always
-abbrev pub IsWithin : Option ℕ → List ℕ → Type 0
-IsWithin (Some limit) bytes = length bytes ≤ limit
-IsWithin None bytes = Unit {0}
+abbrev pub IsNotOver : Option ℕ → List ℕ → Type 0
+IsNotOver (Some limit) bytes = length bytes ≤ limit
+IsNotOver None bytes = Unit {0}
 
 -- ---- what a job makes of them
 
 -- what a job reads in the bytes of its input, and the replies to it
-pub record Task : Type 1 where
+pub record JobTask : Type 1 where
   pub Input : Type 0
   pub read : List ℕ → Result Input TextFault
   pub Replies : Input → Reply → Type 0
 
 -- the task of each job; that of `sample` rests on the seed alone
-abbrev pub task_of : Job → Asked → Task
+abbrev pub task_of : Job → Asked → JobTask
 task_of Decide asked = record { Input = ProblemText; read = problem_of; Replies = AnswersDecide asked }
 task_of Simplify asked = record { Input = Diagram; read = lone_diagram_of; Replies = plainly (AnswersSimplify asked.budget) }
 task_of Least asked = record { Input = Diagram; read = lone_diagram_of; Replies = plainly (AnswersLeast asked.budget) }
@@ -72,4 +72,4 @@ AnswersText asked bytes reply = RepliesRead (task_of asked.job asked).Replies ((
 -- and to the bytes of any input
 abbrev pub Answers : Asked → List ℕ → Reply → Type 0
 Answers asked bytes reply =
-    (IsOver (limit_of asked.job) bytes × (reply ≡ without_search too_long)) ⊎ (IsWithin (limit_of asked.job) bytes × AnswersText asked bytes reply)
+    (IsOver (limit_of asked.job) bytes × (reply ≡ without_search too_long)) ⊎ (IsNotOver (limit_of asked.job) bytes × AnswersText asked bytes reply)

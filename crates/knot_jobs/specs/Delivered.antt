@@ -11,12 +11,12 @@ use Rattle.knot_words.specs.declared.words.WordsFault.TheVariants.{Usage, OutOfM
 use Rattle.knot_ports.specs.declared.status.Status.{Status}
 use Rattle.knot_ports.specs.declared.status.Status.TheVariants as status
 use Rattle.knot_words.specs.Limits.{limit_of}
-use Rattle.knot_jobs.specs.Answer.{IsOver, IsWithin}
+use Rattle.knot_jobs.specs.Answer.{IsOver, IsNotOver}
 use Rattle.knot_ports.specs.Change.{Change, IsUntouched, Failed}
 use Rattle.check_job.specs.Ports.{IsWritten}
 use Rattle.knot_jobs.specs.Call.{TakesAll, TakesTooMuch, Loses}
 use Rattle.knot_jobs.specs.Ending.{usage_line, IsReplyTo}
-use Rattle.knot_jobs.specs.Truth.{IsTrueOf}
+use Rattle.knot_jobs.specs.ReplyTruth.{IsTrueOf}
 
 -- ---- what is read
 
@@ -31,7 +31,7 @@ IsWithoutReply limit source s =
 
 -- the whole input was read, or None where it is longer than its limit; the error is the status of a call that can't read it
 abbrev pub IsRead : Option ℕ → Change → Result (Option (Vec ℕ Global)) Status → Type 0
-IsRead limit source (Ok (Some bytes)) = (TakesAll limit source bytes.items × IsWithin limit bytes.items) × MayBeLost limit source
+IsRead limit source (Ok (Some bytes)) = (TakesAll limit source bytes.items × IsNotOver limit bytes.items) × MayBeLost limit source
 IsRead limit source (Ok None) = ((bytes : List ℕ) × (TakesTooMuch limit source bytes × IsOver limit bytes)) × MayBeLost limit source
 IsRead limit source (Err s) = IsWithoutReply limit source s
 

@@ -1,9 +1,9 @@
 pub mod Answer
 pub mod Call
 pub mod Ending
-pub mod Truth
+pub mod ReplyTruth
 pub mod Delivered
-pub use Rattle.knot_words.specs.Numbers
+pub use Rattle.knot_words.specs.OptionNumbers
 pub use Rattle.knot_words.specs.Limits
 pub use Rattle.knot_words.specs.Words
 pub use Rattle.search_jobs.specs.Reply

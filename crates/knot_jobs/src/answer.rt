@@ -2,7 +2,7 @@
 ghost use Rattle.std.specs.Prelude.{◌≡◌, IfOk};
 ghost use Rattle.knot_words.specs.Words.{IsWithinBounds};
 ghost use Rattle.knot_jobs.specs.Answer.{AnswersText};
-ghost use Rattle.knot_jobs.specs.Truth.{IsTrueIfDone};
+ghost use Rattle.knot_jobs.specs.ReplyTruth.{IsTrueIfDone};
 
 use knot_words::{Asked, Job};
 use search_jobs::{Reply, decide, least, sample, simplify};

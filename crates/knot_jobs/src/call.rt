@@ -1,11 +1,11 @@
 //! The top call: words, read, length, text, job, write.
 ghost use Rattle.std.specs.Prelude.{◌≡◌, ◌≤◌, None, Ok, IfOk, IfErr, IsErrOf};
-ghost use Rattle.knot_words.specs.Numbers.{texts_of};
+ghost use Rattle.knot_words.specs.OptionNumbers.{texts_of};
 ghost use Rattle.knot_words.specs.Words.{Asks, AsksNothing, IsWithinBounds};
 ghost use Rattle.knot_words.specs.Limits.{limit_of};
 ghost use Rattle.knot_ports.specs.Change.{source_change, sink_change};
 ghost use Rattle.knot_jobs.specs.Call.{call_over, as_many_as_asked, only_one, with_workers};
-ghost use Rattle.knot_jobs.specs.Truth.{Goes};
+ghost use Rattle.knot_jobs.specs.ReplyTruth.{Goes};
 ghost use Rattle.knot_jobs.specs.Delivered.{IsRead, IsMadeOf, IsRefused, IsDelivered, IsEnded};
 
 use crate::answer::{answer, answer_alone};

@@ -1,6 +1,6 @@
 -- How counts of faults go on, for callers.
 use Rattle.std.proofs.Common.{◌<◌, ◌≤◌, ℕ, inl, inr, arith}
-use Rattle.knot_ports.specs.Faults.{last_count, one_more, Rose}
+use Rattle.knot_ports.specs.Faults.{greatest_count, one_more, Rose}
 
 -- a rise is still one where the count went on before it
 pub Rose-before : (first before after : ℕ) → first ≤ before → Rose before after → Rose first after
@@ -11,9 +11,9 @@ pub Rose-after : (before after last : ℕ) → before ≤ after → Rose before 
 Rose-after before after last rises rose le = grind arith
 
 -- a count that stands below its last value didn't rise
-pub Rose-still : (count : ℕ) → count < last_count → Rose count count → ⊥
+pub Rose-still : (count : ℕ) → count < greatest_count → Rose count count → ⊥
 Rose-still count below rose = grind arith
 
 -- one more is a rise
-pub Rose-one_more : (count : ℕ) → count ≤ last_count → Rose count (one_more count)
+pub Rose-one_more : (count : ℕ) → count ≤ greatest_count → Rose count (one_more count)
 Rose-one_more count le = grind arith

@@ -1,6 +1,6 @@
 -- Sources and sinks in memory, as contracts see them.
 use Rattle.std.specs.Prelude.{◌≡◌, ◌⊎◌, ◌<◌, ◌-◌, ℕ, List, Contains, length, min}
-use Rattle.knot_ports.specs.Faults.{last_count, one_more}
+use Rattle.knot_ports.specs.Faults.{greatest_count, one_more}
 
 -- calls, numbered from 0: the numbers of those that fail, how many calls have a number, and how many failed
 pub record CallRecord : Type 0 where
@@ -14,7 +14,7 @@ no_calls failing = record { failing = failing; made = 0; failed = 0 }
 
 -- the next call is one that fails: it has a number, of at most 2^64 - 2, and that number is listed
 abbrev pub FailsNext : CallRecord → Type 0
-FailsNext calls = (calls.made < last_count) × Contains calls.failing calls.made
+FailsNext calls = (calls.made < greatest_count) × Contains calls.failing calls.made
 
 -- the calls after one more that passed
 abbrev pub after_pass : CallRecord → CallRecord

@@ -2,7 +2,7 @@
 ghost use Rattle.std.specs.Prelude.{◌≡◌, ◌≢◌, ◌⊎◌, IfSome, IsSome, None};
 ghost use Rattle.knot_ports.specs.Status.{IsOfAnswer};
 ghost use Rattle.knot_ports.specs.declared.status.Status.TheVariants as kind;
-ghost use Rattle.knot_words.specs.Numbers.{texts_of};
+ghost use Rattle.knot_words.specs.OptionNumbers.{texts_of};
 ghost use Rattle.knot_words.specs.Words.{Asks};
 ghost use Rattle.knot_tells.specs.Told.{AsksToDraw, IsOf, IsOfCode, IsOfInput, IsOfRefusal};
 

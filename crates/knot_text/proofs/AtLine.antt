@@ -4,13 +4,13 @@ use Rattle.std.proofs.Common.{sym, ap, subst, ◌∙◌, inl, inr, nat_le, nat_l
 use Rattle.std.specs.List.{list_any, list_all}
 use Rattle.std.specs.Str.{bytes_eq}
 use Rattle.text_lines.specs.Lines.{NumberedLine}
-use Rattle.text_lines.specs.Numbers.{number_of}
+use Rattle.text_lines.specs.NumberTokens.{number_of}
 use Rattle.text_items.specs.declared.reading.TheConstants.{MAX_NUMBER}
 use Rattle.text_items.specs.declared.fault.TextFault.{TextFault}
 use Rattle.text_items.specs.declared.fault.TextFault.TheVariants.{Malformed, Limit}
 use Rattle.text_items.specs.Reading.{◌>>=◌, next_token, line_end, word, or_malformed, number, last_number, last_count, at_most, token_among, next_line}
 use Rattle.text_items.specs.Reading.{no_token_among, each_token}
-use Rattle.text_items.specs.Numbers.{numbers, is_long, numbers_below}
+use Rattle.text_items.specs.NumberLines.{line_numbers, is_long, numbers_below}
 use Rattle.knot_text.specs.FirstBadLine.{NamesLine}
 use Rattle.knot_text.proofs.Steady.{bind_ok, bind_err, ok_is, Steady, Anywhere, line_steady}
 
@@ -158,7 +158,7 @@ unfolding each_token
 tokens_at read n [] = at_ok
 tokens_at read n (t ∷ ts) = at_bind (or_malformed_at n (read t)) (λ v e. at_bind (tokens_at read n ts) (λ vs f. at_ok))
 
-pub numbers_at : (line : NumberedLine) → At line.number (numbers line)
+pub numbers_at : (line : NumberedLine) → At line.number (line_numbers line)
 numbers_at line = tokens_at number_of line.number line.tokens
 
 pub numbers_below_at : (width order : ℕ) (line : NumberedLine) → At line.number (numbers_below width order line)

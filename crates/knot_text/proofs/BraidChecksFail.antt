@@ -7,7 +7,7 @@ use Rattle.text_items.specs.declared.reading.TheConstants.{MAX_NUMBER}
 use Rattle.knot_text.specs.declared.braid_checks.BraidCheckText.{BraidCheckText}
 use Rattle.text_items.specs.Reading.{◌>>=◌, text_end, word, last_count}
 use Rattle.text_items.specs.Braids.{braid_item}
-use Rattle.knot_text.specs.BraidSteps.{step_at, next_step, step_lines, steps_item}
+use Rattle.knot_text.specs.BraidSteps.{step_at, braid_step_item, step_lines, steps_item}
 use Rattle.knot_text.specs.BraidChecks.{braidcheck_in}
 use Rattle.knot_text.specs.FirstBadLine.{FailsFirst}
 use Rattle.knot_text.proofs.Steady.{Anywhere, Steady, turns_steady}
@@ -19,12 +19,12 @@ use Rattle.knot_text.proofs.FirstFault.{anywhere_seen, then_fails, end_fails}
 
 -- ---- steps
 
-next_step_steady : Steady Anywhere next_step
-unfolding next_step
+next_step_steady : Steady Anywhere braid_step_item
+unfolding braid_step_item
 next_step_steady = line_alone step_at step_at_at
 
 step_lines_steady : (count : ℕ) → Steady Anywhere (step_lines count)
-step_lines_steady count = turns_steady next_step count next_step_steady
+step_lines_steady count = turns_steady braid_step_item count next_step_steady
 
 steps_line_at : (line : NumberedLine) → At line.number (word (codes "steps") line >>= last_count)
 unfolding last_count

@@ -6,7 +6,7 @@ use Rattle.std.specs.Fmt.{decimal}
 use Rattle.std.proofs.lemmas.Bool.{le-leb}
 use Rattle.quandle_core.specs.Quandle.{Table}
 use Rattle.cocycle_core.specs.Cocycle.{Cochain, IsCocycle}
-use Rattle.cocycle_core.specs.Fault.{first_fault}
+use Rattle.cocycle_core.specs.Fault.{first_cocycle_fault}
 use Rattle.cocycle_core.proofs.Accepted.{none_from_cocycle}
 use Rattle.text_lines.specs.Lines.{Text}
 use Rattle.text_lines.specs.Spelled.{numbered}
@@ -34,7 +34,7 @@ modulus_again k n some few = rw (
 
 -- what the laws say of some entries
 abbrev tested : Table → ℕ → List ℕ → ℕ → Text → Result (Cochain × Text) TextFault
-tested q k entries n text = cond (is_none (first_fault (cochain q k entries))) (Ok (cochain q k entries, text)) (Err (Malformed n))
+tested q k entries n text = cond (is_none (first_cocycle_fault (cochain q k entries))) (Ok (cochain q k entries, text)) (Err (Malformed n))
 
 cochain_by : (w : Cochain) (n j : ℕ) (text : Text) → IsCocycle w → w.modulus ≤ MAX_MODULUS → w.quandle.order ≡ suc j
     → cochain_item w.quandle w.modulus (lines_before (numbered n (value_lines w)) text) ≡ Ok (w, text)
@@ -50,7 +50,7 @@ cochain_by w n j text is few size =
     let rows = rows_again t k n 0 j text few is.within (omega (arith, size)) in
     let end = line_again t k (n + j + 1) (0 + j) few is.within (omega (arith, size)) in
     let all : front ++ row t (0 + j) ≡ w.entries = ap (λ (x : ℕ). front ++ row t x) last ∙ rows_last t j is.square size in
-    let none : is_none (first_fault w) ≡ true = ap (λ f. is_none f) (none_from_cocycle w is) in
+    let none : is_none (first_cocycle_fault w) ≡ true = ap (λ f. is_none f) (none_from_cocycle w is) in
     let read : cochain_item q k (lines_before lines text) ≡ tested q k (front ++ row t (0 + j)) (n + j + 1) text = rw (fewer, rows, end) refl in
     let passes : tested q k w.entries (n + j + 1) text ≡ Ok (w, text) = rw none refl in
     ap (λ (i : ℕ). cochain_item q k (lines_before (numbered n (map (row_tokens t) (range_with_len 0 i))) text)) size ∙ read

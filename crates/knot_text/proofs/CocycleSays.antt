@@ -4,7 +4,7 @@ use Rattle.std.specs.Prelude.{is_none}
 use Rattle.std.specs.Fmt.{decimal}
 use Rattle.quandle_core.specs.Quandle.{Table, IsQuandle}
 use Rattle.cocycle_core.specs.Cocycle.{Cochain, IsCocycle}
-use Rattle.cocycle_core.specs.Fault.{first_fault}
+use Rattle.cocycle_core.specs.Fault.{first_cocycle_fault}
 use Rattle.cocycle_core.specs.declared.fault.CocycleFault.{CocycleFault}
 use Rattle.cocycle_core.proofs.Accepted.{cocycle_from_none}
 use Rattle.text_lines.specs.Lines.{NumberedLine, Text}
@@ -41,7 +41,7 @@ record IsTableOf (quandle : Table) (modulus : ℕ) (text : Text) (x : Cochain ×
 
 cochain_by : (q : Table) (k : ℕ) (text : Text) (front : List ℕ × Text) (line : NumberedLine × Text) (r : List ℕ) → IsQuandle q
     → AreRows q.order (q.order - 1) text front → IsNext front.1 line → AreColoursAlone q.order k line.0 r
-    → (f : Option CocycleFault) → first_fault (cochain q k (front.0 ++ r)) ≡ f → (e : TextFault)
+    → (f : Option CocycleFault) → first_cocycle_fault (cochain q k (front.0 ++ r)) ≡ f → (e : TextFault)
     → Says (cond (is_none f) (Ok (cochain q k (front.0 ++ r), line.1)) (Err e)) (IsTableOf q k text)
 cochain_by q k text front line r quandle are there last (Some fault) is e = says_err
 cochain_by q k text front line r quandle are there last None is e =
@@ -59,7 +59,7 @@ unfolding cochain_item
 cochain_says q k text quandle = says_bind (AreRows q.order (q.order - 1) text) (rows_say q.order k (q.order - 1) text) (λ front are.
     says_bind (IsNext front.1) (next_says front.1) (λ line there.
     says_bind (AreColoursAlone q.order k line.0) (numbers_below_says q.order k line.0) (λ r last.
-    cochain_by q k text front line r quandle are there last (first_fault (cochain q k (front.0 ++ r))) refl _)))
+    cochain_by q k text front line r quandle are there last (first_cocycle_fault (cochain q k (front.0 ++ r))) refl _)))
 
 pub cocycle_says : (q : Table) (text : Text) → IsQuandle q → Says (cocycle_item q text) (IsWritten (HasCocycleText q) cocycle_lines text)
 unfolding cocycle_item

@@ -3,11 +3,11 @@ use Rattle.std.proofs.Common.{◌≡◌, ℕ, ℤ, List, Bool, true, false, cond
 use Rattle.std.specs.Prelude.{is_none}
 use Rattle.grid_core.specs.declared.fault.GridFault.{GridFault}
 use Rattle.grid_core.specs.Diagram.{Diagram as Marks, IsGrid}
-use Rattle.grid_core.specs.Fault.{first_fault}
+use Rattle.grid_core.specs.Fault.{first_grid_fault}
 use Rattle.grid_core.proofs.Accepted.{accepted_lists}
 use Rattle.braid_core.specs.declared.fault.BraidFault.{BraidFault}
 use Rattle.braid_core.specs.Braid.{Word, IsBraid}
-use Rattle.braid_core.specs.Fault.{first_fault as word_fault}
+use Rattle.braid_core.specs.Fault.{first_word_fault as word_fault}
 use Rattle.braid_core.proofs.Accepted.{none_braid}
 use Rattle.braid_closure.proofs.Grids.{closure_grid}
 use Rattle.text_lines.specs.Lines.{NumberedLine, Text, first_starts}
@@ -16,7 +16,7 @@ use Rattle.verdict_core.specs.declared.diagrams.Diagram.{Diagram}
 use Rattle.verdict_core.specs.declared.diagrams.Diagram.TheVariants.{Grid, Braid}
 use Rattle.verdict_core.specs.declared.problem.ProblemText.{ProblemText}
 use Rattle.text_items.specs.Reading.{◌>>=◌, next_line, word, number}
-use Rattle.text_items.specs.Numbers.{numbers_behind}
+use Rattle.text_items.specs.NumberLines.{numbers_behind}
 use Rattle.text_items.specs.Grids.{x_at, o_at, grid_item}
 use Rattle.text_items.specs.Braids.{letters, exceeds, braid_of, braid_at, braid_item}
 use Rattle.text_items.specs.Quandles.{quandle_list}
@@ -25,7 +25,7 @@ use Rattle.verdict_text.specs.Diagrams.{braid_diagram, grid_diagram, diagram_ite
 use Rattle.verdict_text.specs.Problems.{problem_item}
 use Rattle.knot_text.proofs.Steady.{bind_ok, ok_is}
 
-tested : (x rows : List ℕ) (n : ℕ) (d : Marks) (f : Option GridFault) → first_fault x rows ≡ f
+tested : (x rows : List ℕ) (n : ℕ) (d : Marks) (f : Option GridFault) → first_grid_fault x rows ≡ f
     → cond (is_none f) (Ok (record { x = x; o = rows })) (Err (Malformed n)) ≡ Ok d → IsGrid d
 tested x rows n d (Some f) is e = absurd cc
 tested x rows n d None is e = subst IsGrid (ok_is (record { x = x; o = rows }) d e) (accepted_lists x rows is)
@@ -33,9 +33,9 @@ tested x rows n d None is e = subst IsGrid (ok_is (record { x = x; o = rows }) d
 o_is : (x : List ℕ) (line : NumberedLine) (d : Marks) → o_at x line ≡ Ok d → IsGrid d
 unfolding o_at
 o_is x line d is =
-    let b = bind_ok (numbers_behind (codes "o") line) (λ rows. cond (is_none (first_fault x rows)) (Ok (record { x = x; o = rows }))
+    let b = bind_ok (numbers_behind (codes "o") line) (λ rows. cond (is_none (first_grid_fault x rows)) (Ok (record { x = x; o = rows }))
     (Err (Malformed line.number))) d is in
-    tested x b.0 line.number d (first_fault x b.0) refl b.2
+    tested x b.0 line.number d (first_grid_fault x b.0) refl b.2
 
 pub grid_is : (text : Text) (d : Marks) (rest : Text) → grid_item text ≡ Ok (d, rest) → IsGrid d
 unfolding grid_item

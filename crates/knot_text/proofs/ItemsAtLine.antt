@@ -8,9 +8,9 @@ use Rattle.grid_core.specs.declared.mark.Kind.{Kind}
 use Rattle.grid_core.specs.declared.mark.Kind.TheVariants.{Cross, Ring}
 use Rattle.grid_core.specs.declared.mark.Corner.{Corner}
 use Rattle.grid_core.specs.declared.mark.Corner.TheVariants.{LowLeft, LowRight, HighLeft, HighRight}
-use Rattle.grid_core.specs.Fault.{first_fault}
+use Rattle.grid_core.specs.Fault.{first_grid_fault}
 use Rattle.braid_core.specs.Braid.{Word}
-use Rattle.braid_core.specs.Fault.{first_fault as braid_fault}
+use Rattle.braid_core.specs.Fault.{first_word_fault as braid_fault}
 use Rattle.colour_rows.specs.Colouring.{are_colours}
 use Rattle.grid_moves.specs.declared.step.Move.{Move}
 use Rattle.grid_moves.specs.declared.step.Move.TheVariants.{ShiftColumns, ShiftRows, ExchangeColumns, ExchangeRows, SlideColumns, SlideRows}
@@ -24,7 +24,7 @@ use Rattle.text_items.specs.declared.quandles.Written.TheVariants as written
 use Rattle.verdict_core.specs.declared.verdict.Verdict.{Verdict}
 use Rattle.verdict_core.specs.declared.verdict.Verdict.TheVariants.{UnknownExhausted}
 use Rattle.text_items.specs.Reading.{◌>>=◌, next_token, word, number, last_number, at_most}
-use Rattle.text_items.specs.Numbers.{is_long, numbers_behind}
+use Rattle.text_items.specs.NumberLines.{is_long, numbers_behind}
 use Rattle.text_items.specs.Grids.{are_rows, x_at, o_at}
 use Rattle.text_items.specs.Braids.{letter_of, exceeds, braid_of, braid_at}
 use Rattle.knot_text.specs.Colours.{colours_at}
@@ -52,7 +52,7 @@ x_at_at line = at_bind (numbers_behind_at (codes "x") line) (λ rows e. at_cond 
 
 pub o_at_at : (x : List ℕ) (line : NumberedLine) → At line.number (o_at x line)
 unfolding o_at
-o_at_at x line = at_bind (numbers_behind_at (codes "o") line) (λ rows e. at_cond (is_none (first_fault x rows)) at_ok at_malformed)
+o_at_at x line = at_bind (numbers_behind_at (codes "o") line) (λ rows e. at_cond (is_none (first_grid_fault x rows)) at_ok at_malformed)
 
 -- ---- braids
 

@@ -18,12 +18,12 @@ use Rattle.grid_core.specs.declared.mark.Corner.TheVariants.{LowLeft, LowRight, 
 use Rattle.grid_core.specs.declared.grid.TheConstants.{MAX_SIZE}
 use Rattle.grid_core.specs.declared.fault.GridFault.{GridFault}
 use Rattle.grid_core.specs.Diagram.{Diagram as Marks, IsGrid}
-use Rattle.grid_core.specs.Fault.{first_fault}
+use Rattle.grid_core.specs.Fault.{first_grid_fault}
 use Rattle.grid_core.proofs.Accepted.{accepted_lists}
 use Rattle.braid_core.specs.declared.braid.TheConstants.{MAX_STRANDS}
 use Rattle.braid_core.specs.declared.fault.BraidFault.{BraidFault}
 use Rattle.braid_core.specs.Braid.{Word, IsLetter, IsBraid}
-use Rattle.braid_core.specs.Fault.{first_fault as word_fault}
+use Rattle.braid_core.specs.Fault.{first_word_fault as word_fault}
 use Rattle.braid_core.proofs.Accepted.{none_braid}
 use Rattle.braid_closure.specs.Closure.{closure_size}
 use Rattle.colour_rows.specs.Colouring.{AreColours, are_colours}
@@ -32,7 +32,7 @@ use Rattle.grid_moves.specs.declared.step.Move.{Move}
 use Rattle.grid_moves.specs.declared.step.Move.TheVariants.{ShiftColumns, ShiftRows, ExchangeColumns, ExchangeRows, SlideColumns, SlideRows}
 use Rattle.grid_moves.specs.declared.step.Move.TheVariants.{Stabilise, Destabilise}
 use Rattle.text_lines.specs.Lines.{NumberedLine, Text}
-use Rattle.text_lines.specs.Numbers.{number_of}
+use Rattle.text_lines.specs.NumberTokens.{number_of}
 use Rattle.text_items.specs.declared.fault.TextFault.{TextFault}
 use Rattle.text_items.specs.declared.reading.TheConstants.{MAX_NUMBER, MAX_PLACE}
 use Rattle.text_items.specs.Reading.{◌>>=◌, next_line, in_turn, each_token}
@@ -93,7 +93,7 @@ record IsGridLine (x : List ℕ) (line : NumberedLine) (d : Marks) : Type 0 wher
   same : d.x ≡ x
   tokens : line.tokens ≡ rows_tokens (codes "o") d.o
 
-o_by : (x rows : List ℕ) (line : NumberedLine) (e : TextFault) (f : Option GridFault) → first_fault x rows ≡ f → line.tokens ≡ rows_tokens (codes "o") rows
+o_by : (x rows : List ℕ) (line : NumberedLine) (e : TextFault) (f : Option GridFault) → first_grid_fault x rows ≡ f → line.tokens ≡ rows_tokens (codes "o") rows
     → Says (cond (is_none f) (Ok (record { x = x; o = rows })) (Err e)) (IsGridLine x line)
 o_by x rows line e (Some fault) is tokens = says_err
 o_by x rows line e None is tokens = says_ok (record { x = x; o = rows }) (record { grid = accepted_lists x rows is; same = refl; tokens = tokens })
@@ -101,7 +101,7 @@ o_by x rows line e None is tokens = says_ok (record { x = x; o = rows }) (record
 o_says : (x : List ℕ) (line : NumberedLine) → Says (o_at x line) (IsGridLine x line)
 unfolding o_at
 o_says x line =
-    says_bind (AreBehind (codes "o") line) (numbers_behind_says (codes "o") line) (λ rows is. o_by x rows line _ (first_fault x rows) refl is.tokens)
+    says_bind (AreBehind (codes "o") line) (numbers_behind_says (codes "o") line) (λ rows is. o_by x rows line _ (first_grid_fault x rows) refl is.tokens)
 
 pub grid_says : (text : Text) → Says (grid_item text) (IsWritten IsGrid grid_lines text)
 unfolding grid_item

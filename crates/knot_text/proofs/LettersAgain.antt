@@ -3,7 +3,7 @@ use Rattle.std.proofs.Common.{◌≡◌, ℕ, ◌≤◌, ◌+◌, ◌==◌, ◌+
 use Rattle.std.proofs.Common.{refl, ap, subst, add-one, neg_ℤ, ◌∙◌, arith, codes}
 use Rattle.std.specs.Fmt.{decimal}
 use Rattle.std.proofs.lemmas.Bool.{eqb-true}
-use Rattle.text_lines.specs.Numbers.{number_of}
+use Rattle.text_lines.specs.NumberTokens.{number_of}
 use Rattle.text_lines.specs.Spelled.{is_word}
 use Rattle.knot_text.proofs.NumberTexts.{decimal_read}
 use Rattle.text_items.specs.declared.reading.TheConstants.{MAX_NUMBER}

@@ -9,12 +9,12 @@ use Rattle.grid_core.specs.declared.grid.TheConstants.{MAX_SIZE}
 use Rattle.colour_rows.specs.Colouring.{AreColours, are_colours}
 use Rattle.colour_rows.proofs.Colourings.{colours_from}
 use Rattle.text_lines.specs.Lines.{NumberedLine}
-use Rattle.text_lines.specs.Numbers.{number_of}
+use Rattle.text_lines.specs.NumberTokens.{number_of}
 use Rattle.knot_text.proofs.NumberTexts.{number_spelling}
 use Rattle.text_items.specs.declared.reading.TheConstants.{MAX_NUMBER}
 use Rattle.text_items.specs.Reading.{token_among, next_token, no_token_among, line_end, word, or_malformed}
 use Rattle.text_items.specs.Reading.{number, last_number, at_most, last_count, each_token}
-use Rattle.text_items.specs.Numbers.{is_long, numbers_behind, numbers_below}
+use Rattle.text_items.specs.NumberLines.{is_long, numbers_behind, numbers_below}
 use Rattle.knot_text.proofs.Says.{Says, says_ok, says_err, says_bind, says_if, says_more}
 
 -- ---- tokens

@@ -12,7 +12,7 @@ use Rattle.std.proofs.lemmas.Str.Parse.{IsNumeralModel, digit_from_value}
 use Rattle.std.proofs.Math.Nat.{pow-le-pow_right}
 use Rattle.std.proofs.lemmas.Option.{cond_some}
 use Rattle.text_lines.specs.declared.numbers.TheConstants.{MAX_DIGITS, OVERLONG}
-use Rattle.text_lines.specs.Numbers.{is_digit, is_number, number_of}
+use Rattle.text_lines.specs.NumberTokens.{is_digit, is_number, number_of}
 use Rattle.text_lines.proofs.Digits.{number_digits}
 
 own : IsNumeralModel (λ ds. AllDigits 10 ds) (λ ds. digits_value 10 ds)

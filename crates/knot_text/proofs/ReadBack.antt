@@ -21,7 +21,7 @@ use Rattle.text_items.specs.Grids.{grid_item}
 use Rattle.verdict_text.specs.Moves.{moves_item}
 use Rattle.text_items.specs.Quandles.{quandle_list}
 use Rattle.verdict_text.specs.Verdicts.{verdict_item}
-use Rattle.verdict_core.specs.Diagrams.{grid_of, columns}
+use Rattle.verdict_core.specs.Diagrams.{grid_of, column_count}
 use Rattle.verdict_text.specs.Diagrams.{diagram_item}
 use Rattle.verdict_text.specs.Problems.{problem_item, problem_in, check_in, problem_of, check_of}
 use Rattle.knot_text.specs.Printed.{grid_lines, grid_text, move_tokens, moves_lines, moves_text, HaveMovesText, version_lines, version_text, HasVersionText}
@@ -102,7 +102,7 @@ verdict_ends version n one two p v some also fits =
     ap (λ r. r >>= λ w. judged p w.0 w.1) read ∙ last
 
 pub verdict_behind : (version : Version) (bytes : List ℕ) (p : ProblemText) (v : Verdict) → are_whole_lines bytes ≡ true → problem_of bytes ≡ Ok p
-    → HasVersionText version (columns p.first) (columns p.second) v → check_of (bytes ++ version_text version v) ≡ Ok (p, v)
+    → HasVersionText version (column_count p.first) (column_count p.second) v → check_of (bytes ++ version_text version v) ≡ Ok (p, v)
 unfolding problem_in check_in
 verdict_behind version bytes p v whole is fits =
     let q = bind_ok (problem_item (text_of bytes)) (λ x. text_end x.1 >>= λ end. Ok x.0) p is in
@@ -110,20 +110,20 @@ verdict_behind version bytes p v whole is fits =
     let e = bind_ok (text_end rest) (λ end. Ok q.0.0) p q.2 in
     let same : q.0.0 ≡ p = ok_is q.0.0 p e.2 in
     let grids = subst (λ (x : ProblemText). IsGrid (grid_of x.first) × IsGrid (grid_of x.second)) same (problem_grids (text_of bytes) q.0.0 rest q.1) in
-    let some : 1 ≤ columns p.first = omega (arith, grids.0.least) in
-    let also : 1 ≤ columns p.second = omega (arith, grids.1.least) in
+    let some : 1 ≤ column_count p.first = omega (arith, grids.0.least) in
+    let also : 1 ≤ column_count p.second = omega (arith, grids.1.least) in
     let none = no_lines rest e.0 e.1 in
     let m = 0 + line_count bytes in
     let tail = text_from m (version_text version v) in
-    let other = text_other version m (columns p.first) (columns p.second) v some also fits in
+    let other = text_other version m (column_count p.first) (column_count p.second) v some also fits in
     let text : text_of (bytes ++ version_text version v) ≡ with_lines_behind (text_of bytes) tail.lines tail.ending =
     ap₂ lines_then (text_lines_parted 0 bytes (version_text version v) whole) (text_ending_parted 0 bytes (version_text version v) whole) in
     let behind : with_lines_behind rest tail.lines tail.ending ≡ tail = ap (λ (ls : List NumberedLine). lines_then (ls ++ tail.lines) tail.ending) none in
     let item : problem_item (text_of (bytes ++ version_text version v)) ≡ Ok (p, tail) =
     ap problem_item text ∙ problem_stable (text_of bytes) q.0.0 rest q.1 tail.lines tail.ending other
     ∙ ap₂ (λ (x : ProblemText) (t : Text). Ok (x, t)) same behind in
-    ap (λ r. r >>= λ x. behind_problem (columns x.0.first) (columns x.0.second) x.0 x.1) item
-    ∙ verdict_ends version m (columns p.first) (columns p.second) p v some also fits
+    ap (λ r. r >>= λ x. behind_problem (column_count x.0.first) (column_count x.0.second) x.0 x.1) item
+    ∙ verdict_ends version m (column_count p.first) (column_count p.second) p v some also fits
 
 -- ---- two grids and a verdict
 

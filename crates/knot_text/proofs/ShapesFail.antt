@@ -13,7 +13,7 @@ use Rattle.verdict_text.specs.Moves.{moves_item}
 use Rattle.text_items.specs.Quandles.{quandle_list}
 use Rattle.knot_text.specs.Colours.{coloured_item, coloured}
 use Rattle.verdict_text.specs.Verdicts.{verdict_item}
-use Rattle.verdict_core.specs.Diagrams.{columns}
+use Rattle.verdict_core.specs.Diagrams.{column_count}
 use Rattle.verdict_text.specs.Diagrams.{braid_diagram, grid_diagram, diagram_item}
 use Rattle.verdict_text.specs.Problems.{problem_item, problem_in, check_in}
 use Rattle.knot_text.specs.Shapes.{replay_in, colour_in}
@@ -59,10 +59,10 @@ problem_fails = then_fails AtOther problem_item (λ p text. text_end text >>= λ
 pub check_fails : FailsFirst check_in
 unfolding check_in
 check_fails =
-    then_fails AtOther problem_item (λ p text. verdict_item (columns p.first) (columns p.second) text >>= λ v. text_end v.1
+    then_fails AtOther problem_item (λ p text. verdict_item (column_count p.first) (column_count p.second) text >>= λ v. text_end v.1
     >>= λ end. Ok (p, v.0)) other_seen problem_steady
-    (λ p. then_fails Anywhere (verdict_item (columns p.first) (columns p.second)) (λ v text. text_end text >>= λ end. Ok (p, v)) anywhere_seen
-    (verdict_steady (columns p.first) (columns p.second)) (λ v. end_fails (p, v)))
+    (λ p. then_fails Anywhere (verdict_item (column_count p.first) (column_count p.second)) (λ v text. text_end text >>= λ end. Ok (p, v)) anywhere_seen
+    (verdict_steady (column_count p.first) (column_count p.second)) (λ v. end_fails (p, v)))
 
 -- ---- replays
 
@@ -105,11 +105,11 @@ coloured_fails width make =
 pub replay_fails : FailsFirst replay_in
 unfolding replay_in
 replay_fails =
-    then_fails Anywhere diagram_item (λ d text. moves_item text >>= λ m. coloured (columns d) m.1 >>= λ g. text_end g.1
+    then_fails Anywhere diagram_item (λ d text. moves_item text >>= λ m. coloured (column_count d) m.1 >>= λ g. text_end g.1
     >>= λ end. Ok (record { diagram = d; moves = m.0; colours = g.0 })) anywhere_seen diagram_steady
-    (λ d. then_fails Anywhere moves_item (λ m text. coloured (columns d) text >>= λ g. text_end g.1
+    (λ d. then_fails Anywhere moves_item (λ m text. coloured (column_count d) text >>= λ g. text_end g.1
     >>= λ end. Ok (record { diagram = d; moves = m; colours = g.0 })) anywhere_seen moves_steady
-    (λ m. coloured_fails (columns d) (λ g. record { diagram = d; moves = m; colours = g })))
+    (λ m. coloured_fails (column_count d) (λ g. record { diagram = d; moves = m; colours = g })))
 
 -- ---- listings, closures and lone diagrams
 

@@ -14,7 +14,7 @@ use Rattle.text_items.specs.Quandles.{or_built_in}
 use Rattle.text_items.specs.Reading.{no_line_among, text_end}
 use Rattle.text_items.specs.Quandles.{quandle_list}
 use Rattle.knot_text.specs.Colours.{coloured_item, coloured}
-use Rattle.verdict_core.specs.Diagrams.{columns}
+use Rattle.verdict_core.specs.Diagrams.{column_count}
 use Rattle.verdict_text.specs.Diagrams.{diagram_item}
 use Rattle.verdict_text.specs.Problems.{problem_item, problem_in, check_in}
 use Rattle.knot_text.specs.Shapes.{replay_in, colour_in, close_in, lone_diagram_in}
@@ -99,7 +99,8 @@ problem_in_says text = says_bind (IsProblem text) (problem_says text) (λ p is.
 pub check_in_says : (text : Text) → Says (check_in text) (λ c. IsCheckText (tokens_by_line text.lines) c.0 c.1)
 unfolding check_in
 check_in_says text = says_bind (IsProblem text) (problem_says text) (λ p is.
-    says_bind (IsJudged (columns p.0.first) (columns p.0.second) p.1) (verdict_says (columns p.0.first) (columns p.0.second) p.1) (λ v judged.
+    says_bind (IsJudged (column_count p.0.first) (column_count p.0.second) p.1) (verdict_says (column_count p.0.first) (column_count p.0.second) p.1)
+    (λ v judged.
     says_bind (λ (end : Unit {0}). v.1.lines ≡ []) (end_says v.1) (λ end none.
     says_ok (p.0, v.0) (is.listed, is.has, (judged.version, judged.has, all_lines (in_front_of is.there judged.there) none)))))
 
@@ -109,7 +110,7 @@ pub replay_in_says : (text : Text) → Says (replay_in text) (λ r. HasReplayTex
 unfolding replay_in
 replay_in_says text = says_bind (IsWritten HasDiagramText diagram_lines text) (diagram_says text) (λ d a.
     says_bind (IsWritten HaveMovesText (moves_lines (codes "moves")) d.1) (moves_say d.1) (λ moves b.
-    says_bind (IsWritten (HasGivenText (columns d.0)) given_lines moves.1) (given_says (columns d.0) moves.1) (λ given c.
+    says_bind (IsWritten (HasGivenText (column_count d.0)) given_lines moves.1) (given_says (column_count d.0) moves.1) (λ given c.
     says_bind (λ (end : Unit {0}). given.1.lines ≡ []) (end_says given.1) (λ end none.
     says_ok (record { diagram = d.0; moves = moves.0; colours = given.0 })
     (record { diagram = a.0; moves = b.0; colours = c.0 }, all_lines (in_front_of a.1 (in_front_of b.1 c.1)) none)))))

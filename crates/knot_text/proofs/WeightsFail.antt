@@ -2,7 +2,7 @@
 use Rattle.std.proofs.Common.{ℕ, ◌-◌, List, Bool, cond, Ok, Err, codes, nat_le}
 use Rattle.std.specs.Prelude.{is_none}
 use Rattle.quandle_core.specs.Quandle.{Table}
-use Rattle.cocycle_core.specs.Fault.{first_fault}
+use Rattle.cocycle_core.specs.Fault.{first_cocycle_fault}
 use Rattle.text_lines.specs.Lines.{NumberedLine}
 use Rattle.text_items.specs.declared.fault.TextFault.TheVariants.{Malformed}
 use Rattle.text_items.specs.declared.modulus.TheConstants.{MAX_MODULUS}
@@ -35,7 +35,7 @@ modulus_at_at line =
 -- ---- a cocycle
 
 abbrev is_cocycle : Table → ℕ → List ℕ → Bool
-is_cocycle quandle modulus entries = is_none (first_fault (cochain quandle modulus entries))
+is_cocycle quandle modulus entries = is_none (first_cocycle_fault (cochain quandle modulus entries))
 
 cochain_steady : (quandle : Table) (modulus : ℕ) → Steady Anywhere (cochain_item quandle modulus)
 unfolding cochain_item

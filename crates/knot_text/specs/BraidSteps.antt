@@ -60,15 +60,15 @@ step_at line = do
       else if bytes_eq name.0 (codes "shrink") then shrink name.1
       else Err (Malformed name.1.number)
 
-unfoldable pub next_step : Text → Result (BraidMove × Text) TextFault
-next_step text = do
+unfoldable pub braid_step_item : Text → Result (BraidMove × Text) TextFault
+braid_step_item text = do
   line ← next_line text
   step ← step_at line.0
   Ok (step, line.1)
 
 -- so many steps, a line each
 abbrev pub step_lines : ℕ → Text → Result (List BraidMove × Text) TextFault
-step_lines count text = in_turn next_step count text
+step_lines count text = in_turn braid_step_item count text
 
 -- the item `steps`
 unfoldable pub steps_item : Text → Result (List BraidMove × Text) TextFault

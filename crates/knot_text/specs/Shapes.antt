@@ -6,7 +6,7 @@ use Rattle.verdict_core.specs.declared.diagrams.Diagram.{Diagram}
 use Rattle.knot_text.specs.declared.shapes.ReplayText.{ReplayText}
 use Rattle.knot_text.specs.declared.shapes.ColourText.{ColourText}
 use Rattle.knot_text.specs.declared.shapes.CloseText.{CloseText}
-use Rattle.verdict_core.specs.Diagrams.{columns}
+use Rattle.verdict_core.specs.Diagrams.{column_count}
 use Rattle.text_items.specs.Reading.{◌>>=◌, text_end}
 use Rattle.text_items.specs.Braids.{braid_item}
 use Rattle.verdict_text.specs.Diagrams.{diagram_item}
@@ -19,7 +19,7 @@ unfoldable pub replay_in : Text → Result ReplayText TextFault
 replay_in text = do
   diagram ← diagram_item text
   moves ← moves_item diagram.1
-  colours ← coloured (columns diagram.0) moves.1
+  colours ← coloured (column_count diagram.0) moves.1
   end ← text_end colours.1
   Ok (record { diagram = diagram.0; moves = moves.0; colours = colours.0 })
 

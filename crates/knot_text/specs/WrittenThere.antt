@@ -25,7 +25,7 @@ use Rattle.quandle_core.specs.Names.{NamedQuandle}
 use Rattle.text_items.specs.Quandles.{or_built_in}
 use Rattle.knot_text.specs.Printed.{moves_lines, HaveMovesText, quandle_lines, HasQuandleText, version_lines, HasVersionText, braid_lines}
 use Rattle.knot_text.specs.Printed.{diagram_lines, HasDiagramText, colours_lines, step_tokens, steps_head, HaveStepsText}
-use Rattle.verdict_core.specs.Diagrams.{columns}
+use Rattle.verdict_core.specs.Diagrams.{column_count}
 
 -- the tokens of each line
 abbrev pub tokens_by_line : List NumberedLine → List (List (List ℕ))
@@ -98,7 +98,8 @@ IsProblemText lines p = (listed : List NamedQuandle) × HasProblemText listed p 
 abbrev pub IsCheckText : List (List (List ℕ)) → ProblemText → Verdict → Type 0
 IsCheckText lines p v =
     (listed : List NamedQuandle) × HasProblemText listed p
-    × ((version : Version) × HasVersionText version (columns p.first) (columns p.second) v × (lines ≡ problem_lines listed p ++ version_lines version v))
+    × ((version : Version) × HasVersionText version (column_count p.first) (column_count p.second) v
+    × (lines ≡ problem_lines listed p ++ version_lines version v))
 
 -- a quandle, and a colour for each of so many columns, or nothing
 abbrev pub given_lines : Option (NamedQuandle × ArrayVec ℕ) → List (List (List ℕ))
@@ -113,7 +114,7 @@ HasGivenText width (Some given) = HasQuandleText given.0 × AreColours width giv
 pub record HasReplayText (r : ReplayText) : Type 0 where
   pub diagram : HasDiagramText r.diagram
   pub moves : HaveMovesText r.moves
-  pub colours : HasGivenText (columns r.diagram) r.colours
+  pub colours : HasGivenText (column_count r.diagram) r.colours
 
 abbrev pub replay_lines : ReplayText → List (List (List ℕ))
 replay_lines r = diagram_lines r.diagram ++ (moves_lines (codes "moves") r.moves ++ given_lines r.colours)

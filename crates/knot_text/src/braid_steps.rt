@@ -1,7 +1,7 @@
 //! Steps between braids, a line each, and the item of several.
 ghost use Rattle.std.specs.Prelude.{◌≡◌};
 ghost use Rattle.text_items.specs.Reading.{Gives};
-ghost use Rattle.knot_text.specs.BraidSteps.{last_letter, bounded_letter, insert, grow, shrink, step_at, next_step, step_lines, steps_item};
+ghost use Rattle.knot_text.specs.BraidSteps.{last_letter, bounded_letter, insert, grow, shrink, step_at, braid_step_item, step_lines, steps_item};
 
 use braid_moves::BraidMove;
 use std::alloc::Global;
@@ -107,9 +107,9 @@ fn step_at(line: &mut Line) -> Result<BraidMove, TextFault>
 }
 
 /// The next step line.
-#[tactic(auto, unfolding(crate::specs::BraidSteps::next_step))]
+#[tactic(auto, unfolding(crate::specs::BraidSteps::braid_step_item))]
 fn next_step(lines: &mut Lines) -> Result<BraidMove, TextFault>
-    ensures { Gives (λ m. (m, lines.new)) result (next_step lines.old) }
+    ensures { Gives (λ m. (m, lines.new)) result (braid_step_item lines.old) }
 {
     let mut line = next_line(lines)?;
     step_at(&mut line)

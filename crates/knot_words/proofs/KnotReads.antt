@@ -27,13 +27,13 @@ use Rattle.clap.proofs.TakesLemmas.{each_rule}
 use Rattle.clap.proofs.WalkLemmas.{both, one_text-rows}
 use Rattle.knot_words.specs.declared.words.TheConstants.{MAX_BUDGET}
 use Rattle.knot_words.specs.Matched.{AreMatchesBy}
-use Rattle.knot_words.specs.Numbers.{number_of, seed_rule, workers_rule}
+use Rattle.knot_words.specs.OptionNumbers.{number_of_text, seed_rule, workers_rule}
 use Rattle.knot_words.specs.Words.{budget_rule, job_rule, knot_app, number_given, spare_rule}
 use Rattle.knot_words.proofs.OptionReads.{IsOption, option_reads}
 
 -- the number of this name
 abbrev HasNumber : ArgMatches → Text → ℕ → Type 0
-HasNumber matches name n = option_map number_of (one_of name (rows_of (found_of matches))) ≡ Some n
+HasNumber matches name n = option_map number_of_text (one_of name (rows_of (found_of matches))) ≡ Some n
 
 abbrev knot_rules : List Rule
 knot_rules = job_rule ∷ workers_rule ∷ budget_rule ∷ spare_rule ∷ seed_rule ∷ []
@@ -182,7 +182,7 @@ number_read : (m : ArgMatches) (name : Text) (k : ℕ) (r : Option ℕ) → Answ
     → (n : ℕ) → r ≡ Some n → HasNumber m name n
 number_read m name k r gives t is n read =
     let one : FromText k t (Ok n) = subst (λ (x : Option ℕ). ReadsOne (FromText k) t x) read (gives t is) in
-    ap (option_map number_of) (sym (one_text-rows (found_of m) name) ∙ is) ∙ ap (λ (x : ℕ). Some x) (sym one.0.1)
+    ap (option_map number_of_text) (sym (one_text-rows (found_of m) name) ∙ is) ∙ ap (λ (x : ℕ). Some x) (sym one.0.1)
 
 -- an answer is one number
 pub one_number : (r : Option ℕ) (n k : ℕ) → r ≡ Some n → r ≡ Some k → n ≡ k
@@ -238,4 +238,4 @@ module _ (m : ArgMatches) (h : AreMatchesBy knot_app m) where
 -- the number that a getter finds is the one that the words give
 pub number_is_given : (m : ArgMatches) (name : Text) (words : List Text) (n : ℕ) → rows_of (found_of m) ≡ matches_of knot_app words
     → HasNumber m name n → number_given name words ≡ Some n
-number_is_given m name words n rows has = subst (λ rs. option_map number_of (one_of name rs) ≡ Some n) rows has
+number_is_given m name words n rows has = subst (λ rs. option_map number_of_text (one_of name rs) ≡ Some n) rows has

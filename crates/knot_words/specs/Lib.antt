@@ -1,4 +1,4 @@
-pub mod Numbers
+pub mod OptionNumbers
 pub mod Limits
 pub mod Words
 pub mod Matched

@@ -12,7 +12,7 @@ use Rattle.knot_words.specs.declared.job.Job.{Job}
 use Rattle.knot_words.specs.declared.job.Job.TheVariants.{Decide, Simplify, Least, Sample, Plain}
 use Rattle.knot_words.specs.declared.job.PlainJob.{PlainJob}
 use Rattle.knot_words.specs.declared.job.PlainJob.TheVariants.{Check, Replay, Colour, Close, Code, Braid, Linking, Braidcheck, Weights, Numbers, Grid}
-use Rattle.knot_words.specs.Numbers.{number_rule, workers_rule, seed_rule, number_of}
+use Rattle.knot_words.specs.OptionNumbers.{number_rule, workers_rule, seed_rule, number_of_text}
 
 -- ---- the command
 
@@ -42,7 +42,7 @@ job_given words = first_of (codes "job") (matches_of knot_app words)
 
 -- the number of an option: what the words give, else its default
 abbrev pub number_given : Text → List Text → Option ℕ
-number_given name words = option_map number_of (one_of name (matches_of knot_app words))
+number_given name words = option_map number_of_text (one_of name (matches_of knot_app words))
 
 -- how a job is called
 abbrev pub plain_word : PlainJob → Text

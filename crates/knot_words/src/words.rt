@@ -3,7 +3,7 @@ ghost use Rattle.std.specs.Prelude.{◌≡◌, ◌≢◌, false, true, Option, S
 ghost use Rattle.clap.specs.Simple.{app_of, matches_of};
 ghost use Rattle.clap.specs.Matches.{found_of};
 ghost use Rattle.clap.specs.Walk.{rows_of, rule_of};
-ghost use Rattle.knot_words.specs.Numbers.{number_rule, workers_rule, seed_rule, texts_of};
+ghost use Rattle.knot_words.specs.OptionNumbers.{number_rule, workers_rule, seed_rule, texts_of};
 ghost use Rattle.knot_words.specs.Words.{job_rule, budget_rule, spare_rule, knot_app, AreTaken, Asks, AsksNothing, IsWithinBounds, plain_word, job_word};
 ghost use Rattle.knot_words.specs.Matched.{AreMatchesBy, HasText, IsReadAs};
 

@@ -7,7 +7,7 @@ use Rattle.std.proofs.lemmas.Bool.Decides.{nat_tests}
 use Rattle.std.proofs.Math.Nat.{mod-eq_of_lt}
 use lib.Lanes.{chunk, top}
 use Rattle.lane_spans.specs.Span.{may_trade_places, lies_strictly_between}
-use Rattle.lane_spans.specs.Columns.{covers, trades, next_column, span_at, AreSpans}
+use Rattle.lane_spans.specs.Columns.{lane_covers, trades, neighbour_column, span_at, AreSpans}
 use Rattle.lane_spans.specs.Partial.{mask_of}
 use Rattle.lane_spans.proofs.Masks.{same_tests, later_tests, count_tests}
 
@@ -62,15 +62,15 @@ covering_tests row (suc n) (x ∷ xs) (y ∷ ys) p q =
 -- the mask that the kernel of `covering_mask` makes of n columns from `at` on
 pub covering_lanes : (lo hi : List ℕ) (row at n : ℕ) → length lo ≡ length hi → at + n ≤ length lo → n ≤ 64
     → mask_l (map (top 7) (zip2 bit_and (zip2 below (chunk at n lo) (replicate n row)) (zip2 below (replicate n row) (chunk at n hi)))) % 2 ^ 64
-    ≡ mask_of (covers lo hi row) at n
+    ≡ mask_of (lane_covers lo hi row) at n
 covering_lanes lo hi row at n same le small =
     let test : (ℕ → ℕ → Bool) = λ low high. nat_lt low row && nat_lt row high in
     let high : at + n ≤ length hi = omega arith in
     let lanes = covering_tests row n (chunk at n lo) (chunk at n hi) (length-chunk at n lo le) (length-chunk at n hi high) in
     let reads = ap₂ (zip2 test) (loaded lo at n le) (loaded hi at n high) ∙ zip2-map test (λ c. get_or lo c 0) (λ c. get_or hi c 0) (range_with_len at n) in
-    masked (covers lo hi row) at n _ small (lanes ∙ reads ∙ same_tests _ (covers lo hi row) at n (λ c from to. inside c (omega arith)))
+    masked (lane_covers lo hi row) at n _ small (lanes ∙ reads ∙ same_tests _ (lane_covers lo hi row) at n (λ c from to. inside c (omega arith)))
   where
-    inside : (c : ℕ) → c < length lo → (nat_lt (get_or lo c 0) row && nat_lt row (get_or hi c 0)) ≡ covers lo hi row c
+    inside : (c : ℕ) → c < length lo → (nat_lt (get_or lo c 0) row && nat_lt row (get_or hi c 0)) ≡ lane_covers lo hi row c
     inside c lt = grind (arith, nat_tests)
 
 -- of the spans from l to h and from l' to h' one lies wholly below, above, inside or round the other
@@ -82,7 +82,8 @@ pub free : (l h l' h' : ℕ) → l < h → l' < h' → clear l h l' h' ≡ may_t
 free l h l' h' p q = grind (arith, nat_tests)
 
 -- the same of the spans of a column and its neighbour
-pub free_of_next : (lo hi : List ℕ) (c d : ℕ) → c < length lo → d ≡ next_column (length lo) c → get_or lo c 0 < get_or hi c 0 → get_or lo d 0 < get_or hi d 0
+pub free_of_next : (lo hi : List ℕ) (c d : ℕ) → c < length lo → d ≡ neighbour_column (length lo) c → get_or lo c 0 < get_or hi c 0
+    → get_or lo d 0 < get_or hi d 0
     → clear (get_or lo c 0) (get_or hi c 0) (get_or lo d 0) (get_or hi d 0) ≡ trades lo hi c
 free_of_next lo hi c d column next one other =
     let is_column : nat_lt c (length lo) ≡ true = grind (arith, nat_tests) in
@@ -122,7 +123,7 @@ exchange_lanes lo hi at n same lt small spans =
     inside c before = free_of_next lo hi c (c + 1) (omega arith) (sym (mod-eq_of_lt before)) (spans c (omega arith)) (spans (c + 1) (omega arith))
 
 -- what is no column covers no row, and trades with none
-pub covers_past : (lo hi : List ℕ) (row c : ℕ) → length lo ≤ c → covers lo hi row c ≡ false
+pub covers_past : (lo hi : List ℕ) (row c : ℕ) → length lo ≤ c → lane_covers lo hi row c ≡ false
 covers_past lo hi row c le =
     let past : nat_lt c (length lo) ≡ false = grind (arith, nat_tests) in
     ap (λ t. t && lies_strictly_between row (span_at lo hi c)) past
@@ -130,4 +131,4 @@ covers_past lo hi row c le =
 pub trades_past : (lo hi : List ℕ) (c : ℕ) → length lo ≤ c → trades lo hi c ≡ false
 trades_past lo hi c le =
     let past : nat_lt c (length lo) ≡ false = grind (arith, nat_tests) in
-    ap (λ t. t && may_trade_places (span_at lo hi c) (span_at lo hi (next_column (length lo) c))) past
+    ap (λ t. t && may_trade_places (span_at lo hi c) (span_at lo hi (neighbour_column (length lo) c))) past

@@ -3,10 +3,10 @@ use Rattle.std.proofs.Common.{◌≡◌, refl, ℕ, Bool, List, [], ◌∷◌, m
 use Rattle.std.specs.List.{range_with_len}
 use Rattle.std.specs.Simd.Lanes.{mask_l}
 use Rattle.lane_spans.specs.Span.{Span, disjoint, strictly_nested, interleaved, touching, may_trade_places}
-use Rattle.lane_spans.specs.Columns.{covers, trades}
+use Rattle.lane_spans.specs.Columns.{lane_covers, trades}
 
 covering_of : List ℕ → List ℕ → ℕ → ℕ
-covering_of lo hi row = mask_l (map (covers lo hi row) (range_with_len 0 64))
+covering_of lo hi row = mask_l (map (lane_covers lo hi row) (range_with_len 0 64))
 
 exchange_of : List ℕ → List ℕ → ℕ
 exchange_of lo hi = mask_l (map (trades lo hi) (range_with_len 0 64))

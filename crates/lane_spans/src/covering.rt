@@ -1,7 +1,7 @@
 // The columns that cover a row.
 
 ghost use Rattle.std.specs.Prelude.{◌≡◌, ℕ, ◌+◌, ◌-◌, ◌%◌, ◌<◌, ◌≤◌, length};
-ghost use Rattle.lane_spans.specs.Columns.{covers, has_bit};
+ghost use Rattle.lane_spans.specs.Columns.{lane_covers, has_bit};
 ghost use Rattle.lane_spans.specs.Partial.{mask_of};
 
 use crate::{eight, sixteen};
@@ -14,7 +14,7 @@ use crate::{eight, sixteen};
 pub fn covering_mask(lo: &[u8], hi: &[u8], row: u8) -> u64
     requires same { length lo.now ≡ length hi.now }
     requires most { length lo.now ≤ 64 }
-    ensures bits { (c : ℕ) → has_bit result c ≡ covers lo.now hi.now row c }
+    ensures bits { (c : ℕ) → has_bit result c ≡ lane_covers lo.now hi.now row c }
 {
     let mut at = lo.len() - lo.len() % 16;
     let mut mask = covering_rest(lo, hi, row, at);
@@ -30,7 +30,7 @@ fn covering_rest(lo: &[u8], hi: &[u8], row: u8, at: usize) -> u64
     requires same { length lo.now ≡ length hi.now }
     requires begins { at ≤ length lo.now }
     requires few { length lo.now < at + 16 }
-    ensures { result ≡ mask_of (covers lo.now hi.now row) at (length lo.now - at) }
+    ensures { result ≡ mask_of (lane_covers lo.now hi.now row) at (length lo.now - at) }
 {
     if lo.len() - at < 8 {
         covering_one_by_one(lo, hi, row, at)
@@ -44,7 +44,7 @@ fn covering_one_by_one(lo: &[u8], hi: &[u8], row: u8, from: usize) -> u64
     requires same { length lo.now ≡ length hi.now }
     requires begins { from ≤ length lo.now }
     requires few { length lo.now < from + 8 }
-    ensures { result ≡ mask_of (covers lo.now hi.now row) from (length lo.now - from) }
+    ensures { result ≡ mask_of (lane_covers lo.now hi.now row) from (length lo.now - from) }
 {
     let mut at = lo.len();
     let mut mask = 0u64;
@@ -59,7 +59,7 @@ fn covering_one_by_one(lo: &[u8], hi: &[u8], row: u8, from: usize) -> u64
 fn is_covering(lo: &[u8], hi: &[u8], row: u8, c: usize) -> bool
     requires same { length lo.now ≡ length hi.now }
     requires column { c < length lo.now }
-    ensures { result ≡ covers lo.now hi.now row c }
+    ensures { result ≡ lane_covers lo.now hi.now row c }
 {
     lo[c] < row && row < hi[c]
 }

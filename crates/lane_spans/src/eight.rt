@@ -1,7 +1,7 @@
 // The kernels over eight columns at once.
 
 ghost use Rattle.std.specs.Prelude.{◌≡◌, ◌+◌, ◌<◌, ◌≤◌, length};
-ghost use Rattle.lane_spans.specs.Columns.{covers, trades, AreSpans};
+ghost use Rattle.lane_spans.specs.Columns.{lane_covers, trades, AreSpans};
 ghost use Rattle.lane_spans.specs.Partial.{mask_of};
 
 use std::simd::prelude::*;
@@ -10,7 +10,7 @@ use std::simd::prelude::*;
 pub fn covering_block(lo: &[u8], hi: &[u8], row: u8, at: usize) -> u64
     requires same { length lo.now ≡ length hi.now }
     requires inside { at + 8 ≤ length lo.now }
-    ensures { result ≡ mask_of (covers lo.now hi.now row) at 8 }
+    ensures { result ≡ mask_of (lane_covers lo.now hi.now row) at 8 }
 {
     let lows = u8x8::from_slice(&lo[at..]);
     let highs = u8x8::from_slice(&hi[at..]);

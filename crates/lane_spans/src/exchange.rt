@@ -1,7 +1,7 @@
 // The columns that may trade places with their neighbour.
 
 ghost use Rattle.std.specs.Prelude.{◌≡◌, ℕ, ◌+◌, ◌-◌, ◌%◌, ◌<◌, ◌≤◌, length};
-ghost use Rattle.lane_spans.specs.Columns.{trades, has_bit, next_column, AreSpans};
+ghost use Rattle.lane_spans.specs.Columns.{trades, has_bit, neighbour_column, AreSpans};
 ghost use Rattle.lane_spans.specs.Partial.{mask_of};
 
 use crate::{eight, sixteen};
@@ -82,7 +82,7 @@ fn may_trade(lo: &[u8], hi: &[u8], c: usize) -> bool
 // The neighbour of column c of n columns on a circle.
 fn neighbour(c: usize, n: usize) -> usize
     requires { c < n }
-    ensures { result ≡ next_column n c }
+    ensures { result ≡ neighbour_column n c }
 {
     if c + 1 == n { 0 } else { c + 1 }
 }

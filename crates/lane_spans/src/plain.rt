@@ -1,7 +1,7 @@
 // The same masks by plain loops: each column by its definition, one after the other. The kernels are compared with these.
 
 ghost use Rattle.std.specs.Prelude.{◌≡◌, ℕ, ◌+◌, ◌-◌, ◌%◌, ◌<◌, ◌≤◌, length};
-ghost use Rattle.lane_spans.specs.Columns.{covers, trades, has_bit};
+ghost use Rattle.lane_spans.specs.Columns.{lane_covers, trades, has_bit};
 ghost use Rattle.lane_spans.specs.Span.{lies_inside, may_trade_places};
 ghost use Rattle.lane_spans.specs.Partial.{mask_of};
 
@@ -10,7 +10,7 @@ ghost use Rattle.lane_spans.specs.Partial.{mask_of};
 pub fn covering_mask(lo: &[u8], hi: &[u8], row: u8) -> u64
     requires same { length lo.now ≡ length hi.now }
     requires most { length lo.now ≤ 64 }
-    ensures bits { (c : ℕ) → has_bit result c ≡ covers lo.now hi.now row c }
+    ensures bits { (c : ℕ) → has_bit result c ≡ lane_covers lo.now hi.now row c }
 {
     let mut at = lo.len();
     let mut mask = 0u64;
@@ -40,7 +40,7 @@ pub fn exchange_mask(lo: &[u8], hi: &[u8]) -> u64
 fn is_covering(lo: &[u8], hi: &[u8], row: u8, c: usize) -> bool
     requires same { length lo.now ≡ length hi.now }
     requires column { c < length lo.now }
-    ensures { result ≡ covers lo.now hi.now row c }
+    ensures { result ≡ lane_covers lo.now hi.now row c }
 {
     lo[c] < row && row < hi[c]
 }

@@ -11,7 +11,7 @@ use Rattle.grid_core.specs.Diagram.{Diagram, IsGrid, size}
 use Rattle.grid_core.specs.Span.{span}
 use Rattle.grid_core.specs.Parts.{column_of, ends}
 use Rattle.grid_core.proofs.Marks.{column_mark, column_is, mark_below}
-use Rattle.linking_core.specs.Component.{ShareARow, IsChain, OfOneComponent, united_at, numbers_below, component_number, row_component_number}
+use Rattle.linking_core.specs.Component.{ShareARow, IsChain, OfOneComponent, united_at, component_numbers_below, component_number, row_component_number}
 use Rattle.linking_core.proofs.Spans.{AreEnds, span_ends}
 
 -- what becomes of a number when two components become one
@@ -63,7 +63,7 @@ record IsNumbering (d : Diagram) (h : ℕ) (numbers : List ℕ) : Type 0 where
   fixed : (c : ℕ) → c < size d → slice_index numbers (slice_index numbers c) ≡ slice_index numbers c
   rows : (r : ℕ) → r < h → slice_index numbers (column_of Cross d r) ≡ slice_index numbers (column_of Ring d r)
 
-at_first : (d : Diagram) → IsNumbering d 0 (numbers_below d 0)
+at_first : (d : Diagram) → IsNumbering d 0 (component_numbers_below d 0)
 at_first d = record {
   long = length-range_with_len 0 (size d);
   least = λ c lt. omega (arith, get_or-range_with_len 0 (size d) c 0 lt);
@@ -163,9 +163,9 @@ one_row_more d grid h lt numbers old = record {
               ∙ (both.1 ∙ (sym both.0 ∙ ap (λ (c : ℕ). unite l m (slice_index numbers c)) is.0))
         ] ∙ sym (index (column_of Ring d h) inside.1))
 
-numbering : (d : Diagram) → IsGrid d → (h : ℕ) → h ≤ size d → IsNumbering d h (numbers_below d h)
+numbering : (d : Diagram) → IsGrid d → (h : ℕ) → h ≤ size d → IsNumbering d h (component_numbers_below d h)
 numbering d grid zero le = at_first d
-numbering d grid (suc h) le = one_row_more d grid h (omega arith) (numbers_below d h) (numbering d grid h (omega arith))
+numbering d grid (suc h) le = one_row_more d grid h (omega arith) (component_numbers_below d h) (numbering d grid h (omega arith))
 
 -- the number of a component is a column of it, its own number, and no greater than a column of it
 pub component_le : (d : Diagram) → IsGrid d → (c : ℕ) → c < size d → component_number d c ≤ c
@@ -223,20 +223,20 @@ joined_numbers d R grid joins r lt numbers old =
     ]
 
 related_below : (d : Diagram) (R : ℕ → ℕ → Type 0) → IsGrid d → JoinsRows d R → (h : ℕ) → h ≤ size d → (c : ℕ) → c < size d
-    → R (slice_index (numbers_below d h) c) c
+    → R (slice_index (component_numbers_below d h) c) c
 related_below d R grid joins zero le c lt =
     subst (λ (b : ℕ). R b c) (sym (get_or-range_with_len 0 (size d) c 0 lt ∙ (let e : 0 + c ≡ c = omega arith in e))) (joins.same c lt)
 related_below d R grid joins (suc h) le c lt =
     let old = λ (b : ℕ) (within : b < size d). related_below d R grid joins h (omega arith) b within in
     let long = (numbering d grid h (omega arith)).long in
-    let at = united_index d h (numbers_below d h) c (omega (arith, lt, long)) in
-    elim (cases_eq (slice_index (numbers_below d h) c) (high_at d h (numbers_below d h))) [
-      | inl is ↦ subst (λ (b : ℕ). R b c) (sym (at ∙ unite_high (low_at d h (numbers_below d h)) (high_at d h (numbers_below d h))
-          (slice_index (numbers_below d h) c) is))
-          (joins.after (low_at d h (numbers_below d h)) (high_at d h (numbers_below d h)) c
-          (joined_numbers d R grid joins h (omega arith) (numbers_below d h) old) (subst (λ (b : ℕ). R b c) is (old c lt)))
-      | inr ne ↦ subst (λ (b : ℕ). R b c) (sym (at ∙ unite_other (low_at d h (numbers_below d h)) (high_at d h (numbers_below d h))
-          (slice_index (numbers_below d h) c) ne)) (old c lt)
+    let at = united_index d h (component_numbers_below d h) c (omega (arith, lt, long)) in
+    elim (cases_eq (slice_index (component_numbers_below d h) c) (high_at d h (component_numbers_below d h))) [
+      | inl is ↦ subst (λ (b : ℕ). R b c) (sym (at ∙ unite_high (low_at d h (component_numbers_below d h)) (high_at d h (component_numbers_below d h))
+          (slice_index (component_numbers_below d h) c) is))
+          (joins.after (low_at d h (component_numbers_below d h)) (high_at d h (component_numbers_below d h)) c
+          (joined_numbers d R grid joins h (omega arith) (component_numbers_below d h) old) (subst (λ (b : ℕ). R b c) is (old c lt)))
+      | inr ne ↦ subst (λ (b : ℕ). R b c) (sym (at ∙ unite_other (low_at d h (component_numbers_below d h)) (high_at d h (component_numbers_below d h))
+          (slice_index (component_numbers_below d h) c) ne)) (old c lt)
     ]
 
 -- every such equivalence joins a column to the number of its component
@@ -319,6 +319,7 @@ row_component_by_kind d grid Cross r lt = (row_component_is d grid r lt).0
 row_component_by_kind d grid Ring r lt = (row_component_is d grid r lt).1
 
 -- there is a number for each column, of any two lists
-pub numbers_long : (d : Diagram) (h : ℕ) → length (numbers_below d h) ≡ size d
+pub numbers_long : (d : Diagram) (h : ℕ) → length (component_numbers_below d h) ≡ size d
 numbers_long d zero = length-range_with_len 0 (size d)
-numbers_long d (suc h) = length-map (numbers_below d h) (λ i. unite (low_at d h (numbers_below d h)) (high_at d h (numbers_below d h)) i) ∙ numbers_long d h
+numbers_long d (suc h) = length-map (component_numbers_below d h)
+    (λ i. unite (low_at d h (component_numbers_below d h)) (high_at d h (component_numbers_below d h)) i) ∙ numbers_long d h

@@ -34,13 +34,13 @@ abbrev pub united_at : Diagram → ℕ → List ℕ → List ℕ
 united_at d r numbers = united (span (slice_index numbers (ends d r).low) (slice_index numbers (ends d r).high)) numbers
 
 -- the number of each column's component, when only the rows below h join columns
-abbrev pub numbers_below : Diagram → ℕ → List ℕ
-numbers_below d zero = range_with_len 0 (size d)
-numbers_below d (suc r) = united_at d r (numbers_below d r)
+abbrev pub component_numbers_below : Diagram → ℕ → List ℕ
+component_numbers_below d zero = range_with_len 0 (size d)
+component_numbers_below d (suc r) = united_at d r (component_numbers_below d r)
 
 -- the number of the component of column c, with all rows joining columns: by a law, the least column that a chain joins to c
 abbrev pub component_number : Diagram → ℕ → ℕ
-component_number d c = slice_index (numbers_below d (size d)) c
+component_number d c = slice_index (component_numbers_below d (size d)) c
 
 -- the number of the component of row r, which is that of its ends
 abbrev pub row_component_number : Diagram → ℕ → ℕ

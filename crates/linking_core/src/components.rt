@@ -3,7 +3,7 @@ ghost use Rattle.std.specs.Prelude.{◌≡◌, ◌<◌, ◌≤◌, ◌==◌, ℕ
 ghost use Rattle.std.specs.List.{range_with_len};
 ghost use Rattle.grid_core.specs.declared.grid.TheConstants.{MAX_SIZE};
 ghost use Rattle.grid_core.specs.Diagram.{size};
-ghost use Rattle.linking_core.specs.Component.{OfOneComponent, united, united_at, numbers_below, component_number, components};
+ghost use Rattle.linking_core.specs.Component.{OfOneComponent, united, united_at, component_numbers_below, component_number, components};
 
 use arrayvec::ArrayVec;
 use grid_core::{Grid, Rows, Span};
@@ -24,7 +24,7 @@ pub fn component(grid: &Grid, column: u8) -> u8
 
 /// The number of each column's component, from the left.
 pub(crate) fn numbers_of(grid: &Grid) -> Rows
-    ensures numbers { result.items ≡ numbers_below grid.now (size grid.now) }
+    ensures numbers { result.items ≡ component_numbers_below grid.now (size grid.now) }
     ensures long { length result.items ≡ size grid.now }
 {
     let size = grid.size();
@@ -37,7 +37,7 @@ pub(crate) fn numbers_of(grid: &Grid) -> Rows
 
 /// The numbers of all components, in ascending order.
 pub(crate) fn components_of(grid: &Grid, numbers: &Rows) -> Rows
-    requires { numbers.now.items ≡ numbers_below grid.now (size grid.now) }
+    requires { numbers.now.items ≡ component_numbers_below grid.now (size grid.now) }
     ensures { result.items ≡ components grid.now }
 {
     let mut found = Rows::new();
@@ -52,7 +52,7 @@ pub(crate) fn components_of(grid: &Grid, numbers: &Rows) -> Rows
 /// The number of the component of a column, from the list of them all.
 #[tactic(auto, using(crate::proofs::ComponentNumbers::numbers_long))]
 pub(crate) fn number_of(grid: &Grid, numbers: &Rows, c: u8) -> u8
-    requires numbers { numbers.now.items ≡ numbers_below grid.now (size grid.now) }
+    requires numbers { numbers.now.items ≡ component_numbers_below grid.now (size grid.now) }
     requires column { c < size grid.now }
     ensures { result ≡ component_number grid.now c }
 {

@@ -11,7 +11,7 @@ use Rattle.grid_moves.specs.declared.step.Move.TheVariants.{ShiftColumns, ShiftR
 use Rattle.grid_moves.specs.Joining.{Joins}
 use Rattle.grid_moves.proofs.Joined.{joins_append}
 use Rattle.grid_keys.specs.declared.key.Packed.{Packed}
-use Rattle.grid_keys.specs.Shifts.{column_shift, row_shift, shift_moves}
+use Rattle.grid_keys.specs.Shifts.{needed_column_shift, needed_row_shift, shift_moves}
 use Rattle.grid_keys.specs.Translation.{translates}
 use Rattle.grid_keys.specs.CanonicalForm.{IsCanonicalForm, IsCanonical}
 use Rattle.grid_keys.specs.Key.{key_of, IsKeyOf}
@@ -42,16 +42,16 @@ one_kept move keeps = λ k d lt. at k d lt
     at zero d lt = keeps
     at (suc k) d lt = absurd (omega (arith, lt))
 
-column_kept : (a : ℕ) → Kept (column_shift a)
+column_kept : (a : ℕ) → Kept (needed_column_shift a)
 column_kept zero = none_kept
 column_kept (suc a) = one_kept (ShiftColumns (suc a)) refl
 
-row_kept : (b : ℕ) → Kept (row_shift b)
+row_kept : (b : ℕ) → Kept (needed_row_shift b)
 row_kept zero = none_kept
 row_kept (suc b) = one_kept (ShiftRows (suc b)) refl
 
 shifts_kept : (a b : ℕ) → Kept (shift_moves a b)
-shifts_kept a b = All-append (λ (move : Move). is_shift_or_exchange move ≡ true) (column_shift a) (row_shift b) (column_kept a) (row_kept b)
+shifts_kept a b = All-append (λ (move : Move). is_shift_or_exchange move ≡ true) (needed_column_shift a) (needed_row_shift b) (column_kept a) (row_kept b)
 
 link_kept : (link : Link) → is_shift_or_exchange link.step ≡ true → Kept (link_moves link)
 link_kept link keeps =

@@ -5,7 +5,7 @@ use Rattle.std.specs.Map.{lookup, keys_of}
 use Rattle.std.proofs.lemmas.Map.Made.{is_some-lookup}
 use Rattle.grid_keys.specs.declared.key.Packed.{Packed}
 use Rattle.grid_keys.specs.Key.{same_key}
-use Rattle.mono_simplify.specs.declared.class.Origin.{Origin}
+use Rattle.mono_simplify.specs.declared.class.MemberOrigin.{MemberOrigin}
 use Rattle.mono_simplify.specs.Listing.{has_key}
 use Rattle.mono_simplify.specs.Ways.{Member, keys_in}
 
@@ -16,7 +16,7 @@ keys_same (m ∷ members) = ap (λ (ks : List Packed). m.0 ∷ ks) (keys_same me
 pub found_key : (members : List Member) (key : Packed) → is_some (lookup (same_key key) members) ≡ has_key (keys_in members) key
 found_key members key = is_some-lookup (same_key key) members ∙ ap (λ (ks : List Packed). list_any (same_key key) ks) (keys_same members)
 
-none_if : (o : Option Origin) → is_some o ≡ false → o ≡ None
+none_if : (o : Option MemberOrigin) → is_some o ≡ false → o ≡ None
 none_if None h = refl
 none_if (Some x) h = absurd (let no : true ≡ false = h in cc)
 

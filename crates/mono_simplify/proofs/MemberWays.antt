@@ -12,7 +12,7 @@ use Rattle.grid_keys.specs.CanonicalForm.{IsLeastForm}
 use Rattle.grid_keys.specs.Key.{IsKeyOf}
 use Rattle.grid_keys.proofs.Keys.{key_once}
 use Rattle.next_moves.specs.Offers.{Leads}
-use Rattle.mono_simplify.specs.declared.class.Origin.{Origin}
+use Rattle.mono_simplify.specs.declared.class.MemberOrigin.{MemberOrigin}
 use Rattle.mono_simplify.specs.ExchangeClass.{is_shift_or_exchange}
 use Rattle.mono_simplify.specs.Ways.{Member, keys_in, AreLinked}
 use Rattle.mono_simplify.proofs.Ways.{trails_end, parent_before}
@@ -36,7 +36,7 @@ first_way d members place form none moves key member grid first ways least empty
     (trails_end d members place form [] (reverse shifts) member grid first ways least refl
     (record { key = key; member = member; stands = stands; names = names; same = long; joined = (omega (arith, long), refl) }))
 
-pub later_parent : (d : Diagram) (members : List Member) (place : ℕ) (origin : Origin) (key : Packed)
+pub later_parent : (d : Diagram) (members : List Member) (place : ℕ) (origin : MemberOrigin) (key : Packed)
     → 0 < place
     → place < length members
     → AreLinked d members
@@ -44,7 +44,7 @@ pub later_parent : (d : Diagram) (members : List Member) (place : ℕ) (origin :
     → origin.parent < length members
 later_parent d members place origin key above below ways stands = omega (arith, parent_before d members place origin key above ways stands, below)
 
-pub later_exchange : (d : Diagram) (members : List Member) (place : ℕ) (origin : Origin) (key : Packed)
+pub later_exchange : (d : Diagram) (members : List Member) (place : ℕ) (origin : MemberOrigin) (key : Packed)
     → 0 < place
     → AreLinked d members
     → slice_get members place ≡ Some (key, origin)
@@ -53,7 +53,7 @@ later_exchange d members zero origin key above ways stands = absurd (omega (arit
 later_exchange d members (suc place) origin key above ways stands = (ways.child place (key, origin) stands).exchanges
 
 -- the way to a parent and the link from there are the way to another member
-pub later_way : (d : Diagram) (members : List Member) (place : ℕ) (origin : Origin) (name key : Packed) (moves : List Move) (member : Diagram)
+pub later_way : (d : Diagram) (members : List Member) (place : ℕ) (origin : MemberOrigin) (name key : Packed) (moves : List Move) (member : Diagram)
     → 0 < place
     → AreLinked d members
     → slice_get members place ≡ Some (name, origin)

@@ -8,10 +8,10 @@ use Rattle.grid_core.specs.Diagram.{Diagram}
 use Rattle.grid_moves.specs.declared.step.Move.{Move}
 use Rattle.grid_moves.specs.declared.step.Move.TheVariants.{ShiftColumns, ShiftRows}
 use Rattle.grid_keys.specs.declared.key.Packed.{Packed}
-use Rattle.grid_keys.specs.Shifts.{column_shift, row_shift, shift_moves}
+use Rattle.grid_keys.specs.Shifts.{needed_column_shift, needed_row_shift, shift_moves}
 use Rattle.next_moves.specs.declared.links.Link.{Link}
 use Rattle.next_moves.specs.Links.{link_moves}
-use Rattle.mono_simplify.specs.declared.class.Origin.{Origin}
+use Rattle.mono_simplify.specs.declared.class.MemberOrigin.{MemberOrigin}
 use Rattle.mono_simplify.specs.ExchangeClass.{is_shift_or_exchange}
 use Rattle.grid_moves.specs.Kinds.{is_destabilisation}
 use Rattle.mono_simplify.specs.Simplified.{is_monotonic, AreMonotonic}
@@ -52,16 +52,16 @@ module _ (kind : Move → Bool) (has : HasExchanges kind) where
       (all_reversed moves (All-tail Is move moves are))
       (all_one move (All-head Is move moves are))
 
-  all_column_shift : (k : ℕ) → AreAll kind (column_shift k)
+  all_column_shift : (k : ℕ) → AreAll kind (needed_column_shift k)
   all_column_shift zero = All-nil Is
   all_column_shift (suc k) = all_one (ShiftColumns (suc k)) (has (ShiftColumns (suc k)) refl)
 
-  all_row_shift : (k : ℕ) → AreAll kind (row_shift k)
+  all_row_shift : (k : ℕ) → AreAll kind (needed_row_shift k)
   all_row_shift zero = All-nil Is
   all_row_shift (suc k) = all_one (ShiftRows (suc k)) (has (ShiftRows (suc k)) refl)
 
   pub all_shifts : (columns rows : ℕ) → AreAll kind (shift_moves columns rows)
-  all_shifts columns rows = All-append Is (column_shift columns) (row_shift rows) (all_column_shift columns) (all_row_shift rows)
+  all_shifts columns rows = All-append Is (needed_column_shift columns) (needed_row_shift rows) (all_column_shift columns) (all_row_shift rows)
 
   all_link : (link : Link) → kind link.step ≡ true → AreAll kind (link_moves link)
   all_link link is =
@@ -81,7 +81,7 @@ module _ (kind : Move → Bool) (has : HasExchanges kind) where
       all_more back (reverse (link_moves link)) after is (subst (AreAll kind) (sym empty) (All-nil Is))
       (all_reversed (link_moves link) (all_link link step))
 
-  pub all_on : (d : Diagram) (members : List Member) (here : ℕ) (origin : Origin) (key : Packed) (back after : List Move)
+  pub all_on : (d : Diagram) (members : List Member) (here : ℕ) (origin : MemberOrigin) (key : Packed) (back after : List Move)
       → 0 < here
       → AreLinked d members
       → slice_get members here ≡ Some (key, origin)

@@ -24,7 +24,7 @@ use Rattle.next_moves.specs.Offers.{Leads, exchanges_among}
 use Rattle.next_moves.proofs.Members.{contains_filter}
 use Rattle.next_moves.specs.Links.{link_moves}
 use Rattle.next_moves.proofs.Linked.{link_joined_within}
-use Rattle.mono_simplify.specs.declared.class.Origin.{Origin}
+use Rattle.mono_simplify.specs.declared.class.MemberOrigin.{MemberOrigin}
 use Rattle.mono_simplify.specs.Listing.{IsExchangeList, has_key, with_keys}
 use Rattle.mono_simplify.proofs.Keys.{more_new}
 use Rattle.mono_simplify.specs.Ways.{Member, keys_in, IsExchangeLink, AreLinked, IsOffered, Admits}
@@ -97,7 +97,7 @@ member_stands [] i key is = absurd cc
 member_stands (x ∷ members) zero key is = let same : x.0 ≡ key = cc in (x, (refl, same))
 member_stands (x ∷ members) (suc i) key is = member_stands members i key is
 
-linked_later : (d : Diagram) (keys more : List Packed) (place : ℕ) (key : Packed) (origin : Origin) → IsExchangeLink d keys place key origin
+linked_later : (d : Diagram) (keys more : List Packed) (place : ℕ) (key : Packed) (origin : MemberOrigin) → IsExchangeLink d keys place key origin
     → IsExchangeLink d (keys ++ more) place key origin
 linked_later d keys more place key origin is = record {
   lower = is.lower;
@@ -113,7 +113,7 @@ linked_later d keys more place key origin is = record {
   exchanges = is.exchanges;
 }
 
-pub ways_start : (d f : Diagram) (origin : Origin) (members : List Member) → IsCanonicalForm d f → members ≡ (key_of f, origin) ∷ [] → AreLinked d members
+pub ways_start : (d f : Diagram) (origin : MemberOrigin) (members : List Member) → IsCanonicalForm d f → members ≡ (key_of f, origin) ∷ [] → AreLinked d members
 ways_start d f origin members form is = subst (λ (ms : List Member). AreLinked d ms) (sym is) (record {
   root = λ m stands. let same : (key_of f, origin) ≡ m = cc in (f, (form, ap (λ (y : Member). y.0) same));
   child = λ place m stands. absurd (let past : slice_get ((key_of f, origin) ∷ [])
@@ -186,7 +186,7 @@ trails_start d members place back after last key member to empty is stands names
       (link_joined_within member to last (size d) names.grid leads (omega (arith, same)) small);
 }
 
-pub trails_more : (d : Diagram) (members : List Member) (here : ℕ) (origin : Origin) (key : Packed) (back after : List Move) (to : Diagram) → 0 < here
+pub trails_more : (d : Diagram) (members : List Member) (here : ℕ) (origin : MemberOrigin) (key : Packed) (back after : List Move) (to : Diagram) → 0 < here
     → AreLinked d members → slice_get members here ≡ Some (key, origin) → after ≡ back ++ reverse (link_moves origin.link) → Trails d members here back to
     → Trails d members origin.parent after to
 trails_more d members zero origin key back after to lt ways stands is trails = absurd (omega (arith, lt))
@@ -210,7 +210,7 @@ trails_more d members (suc here) origin key back after to lt ways stands is trai
           (within_append (size d) (link_moves origin.link) (reverse back) linked.from trails.member to first trails.joined);
     }
 
-pub parent_before : (d : Diagram) (members : List Member) (here : ℕ) (origin : Origin) (key : Packed) → 0 < here → AreLinked d members
+pub parent_before : (d : Diagram) (members : List Member) (here : ℕ) (origin : MemberOrigin) (key : Packed) → 0 < here → AreLinked d members
     → slice_get members here ≡ Some (key, origin) → origin.parent < here
 parent_before d members zero origin key lt ways stands = absurd (omega (arith, lt))
 parent_before d members (suc here) origin key lt ways stands = (ways.child here (key, origin) stands).lower

@@ -4,7 +4,7 @@ use Rattle.std.specs.List.{All}
 use Rattle.grid_core.specs.Diagram.{Diagram}
 use Rattle.grid_moves.specs.declared.step.Move.{Move}
 use Rattle.grid_moves.specs.declared.step.Move.TheVariants.{Destabilise}
-use Rattle.grid_moves.specs.MoveFault.{first_fault}
+use Rattle.grid_moves.specs.MoveFault.{first_move_fault}
 use Rattle.grid_moves.specs.Joining.{Joins}
 use Rattle.grid_keys.specs.CanonicalForm.{IsCanonicalForm}
 use Rattle.grid_moves.specs.Kinds.{is_shift, is_exchange}
@@ -29,7 +29,7 @@ pub record IsInClass (d f : Diagram) : Type 0 where
 pub record MayDestabilise (d : Diagram) : Type 0 where
   pub column : ℕ
   pub row : ℕ
-  pub legal : first_fault d (Destabilise column row) ≡ None
+  pub legal : first_move_fault d (Destabilise column row) ≡ None
 
 -- no diagram that shifts and exchanges reach from d has a legal destabilisation
 abbrev pub IsIrreducible : Diagram → Type 0

@@ -7,7 +7,7 @@ use Rattle.grid_keys.specs.CanonicalForm.{IsCanonicalForm}
 use Rattle.grid_keys.specs.Key.{key_of, IsKeyOf}
 use Rattle.next_moves.specs.declared.links.Offer.{Offer}
 use Rattle.next_moves.specs.Offers.{Leads}
-use Rattle.mono_simplify.specs.declared.class.Origin.{Origin}
+use Rattle.mono_simplify.specs.declared.class.MemberOrigin.{MemberOrigin}
 use Rattle.mono_simplify.specs.declared.explore.Explored.{Explored}
 use Rattle.mono_simplify.specs.declared.explore.Explored.TheVariants.{Smaller, Whole, More}
 use Rattle.grid_moves.specs.Joining.{JoinsWithin}
@@ -17,13 +17,13 @@ use Rattle.mono_simplify.specs.Simplified.{AreMonotonic}
 use Rattle.mono_simplify.specs.Listing.{IsExchangeList, IsListed, NoTranslateDestabilises, HasAtMost, HasMoreAndNoneSmaller}
 
 abbrev pub Member : Type 0
-Member = Packed × Origin
+Member = Packed × MemberOrigin
 
 abbrev pub keys_in : List Member → List Packed
 keys_in members = map (λ (m : Member). m.0) members
 
 -- the link leads by an exchange from the diagram of the parent's key to that of the key, at the size of d
-pub record IsExchangeLink (d : Diagram) (keys : List Packed) (place : ℕ) (key : Packed) (origin : Origin) : Type 0 where
+pub record IsExchangeLink (d : Diagram) (keys : List Packed) (place : ℕ) (key : Packed) (origin : MemberOrigin) : Type 0 where
   pub lower : origin.parent < place
   pub parent : Packed
   pub stands : slice_get keys origin.parent ≡ Some parent

@@ -6,7 +6,7 @@ ghost use Rattle.next_moves.specs.Offers.{exchanges_among};
 ghost use Rattle.mono_simplify.specs.Listing.{with_keys};
 ghost use Rattle.mono_simplify.specs.Ways.{keys_in, Admits, IsExploredAfter, IsExploredTo};
 
-use crate::class::{Class, Origin};
+use crate::class::{Class, MemberOrigin};
 use crate::way::way_to;
 use grid_canon::canonical_key;
 use grid_core::Grid;
@@ -121,7 +121,7 @@ pub fn admit_all(
         if class.len() == budget as usize {
             return Ok(true);
         }
-        let origin = Origin {
+        let origin = MemberOrigin {
             parent: place,
             link: offer.link,
         };

@@ -9,7 +9,7 @@ use Rattle.grid_core.specs.Diagram.{Diagram, IsGrid, size, row_of}
 use Rattle.grid_core.proofs.Marks.{row_below, no_cell_twice}
 use Rattle.grid_moves.specs.declared.step.Move.TheVariants.{Destabilise}
 use Rattle.grid_moves.specs.declared.step.MoveFault.{MoveFault}
-use Rattle.grid_moves.specs.MoveFault.{first_fault}
+use Rattle.grid_moves.specs.MoveFault.{first_move_fault}
 use Rattle.grid_moves.specs.Shift.{shifted}
 use Rattle.grid_moves.specs.Step.{Step}
 use Rattle.grid_moves.proofs.OneResult.{step_exists}
@@ -90,7 +90,7 @@ not_none (Some f) b other = refl
 pub no_other_block : (d : Diagram) (cap c r : ℕ) → IsGrid d → c < size d → r < size d → r ≢ row_of_both d c → r ≢ row_of_both d (next (size d) c)
     → is_offered d cap (try_destabilisation (size d) c r) ≡ false
 no_other_block d cap c r grid hc hr near far =
-    not_none (first_fault (translate d (shift_before (size d) c) (shift_before (size d) r))
+    not_none (first_move_fault (translate d (shift_before (size d) c) (shift_before (size d) r))
     (Destabilise (place_after_shift (size d) c) (place_after_shift (size d) r)))
     (nat_le (size_after (Destabilise (place_after_shift (size d) c) (place_after_shift (size d) r)) (size d)) cap) (λ legal.
     let translated =

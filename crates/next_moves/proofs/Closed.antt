@@ -18,7 +18,7 @@ use Rattle.grid_moves.proofs.Within.{within_cap_after, within_larger}
 use Rattle.grid_keys.specs.Shifts.{shift_moves}
 use Rattle.grid_keys.specs.Key.{key_of}
 use Rattle.grid_keys.proofs.Keys.{key_once}
-use Rattle.next_moves.specs.Offers.{IsOfferList, Neighbourhood, IsWhole}
+use Rattle.next_moves.specs.Offers.{IsOfferList, Neighbourhood, IsWholeNeighbourhood}
 use Rattle.next_moves.specs.Reach.{IsReached, AreMembers}
 use Rattle.grid_moves.specs.Kinds.{is_shift}
 use Rattle.next_moves.specs.Neighbours.{IsNeighbour}
@@ -113,5 +113,5 @@ neighbour_reached d f cap grid small near =
     (form_reached near.after f cap near.step.after near.small near.form))
 
 -- the offers of a key
-pub whole_of_key : (n : Neighbourhood) (d : Diagram) → IsWhole n → IsGrid d → key_of d ≡ n.origin → IsOfferList d n.cap n.offers
+pub whole_of_key : (n : Neighbourhood) (d : Diagram) → IsWholeNeighbourhood n → IsGrid d → key_of d ≡ n.origin → IsOfferList d n.cap n.offers
 whole_of_key n d whole grid same = subst (λ e. IsOfferList e n.cap n.offers) (key_once whole.diagram d whole.grid grid (whole.origin ∙ sym same)) whole.whole

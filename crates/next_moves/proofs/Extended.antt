@@ -12,7 +12,7 @@ use Rattle.grid_core.specs.declared.mark.Kind.TheVariants.{Cross, Ring}
 use Rattle.grid_core.specs.Diagram.{Diagram, size}
 use Rattle.grid_moves.specs.declared.step.Move.TheVariants.{Stabilise}
 use Rattle.grid_moves.specs.declared.step.MoveFault.{MoveFault}
-use Rattle.grid_moves.specs.MoveFault.{first_fault}
+use Rattle.grid_moves.specs.MoveFault.{first_move_fault}
 use Rattle.grid_moves.specs.Step.{Step}
 use Rattle.grid_moves.specs.SizeAfter.{size_after}
 use Rattle.grid_moves.proofs.OneResult.{step_legal}
@@ -74,11 +74,11 @@ some_fault fault f b e = ap (λ g. is_none g && b) e
 pub legal_offered : (d translated moved : Diagram) (cap : ℕ) (t : Try) → t.before.0 < size d → translated ≡ translate d t.before.0 t.before.1
     → Step translated t.step moved → is_offered d cap t ≡ nat_le (size moved) cap
 legal_offered d translated moved cap t columns is step =
-    let legal : first_fault (translate d t.before.0 t.before.1) t.step ≡ None =
-    ap (λ e. first_fault e t.step) (sym is) ∙ step_legal translated t.step moved step in
+    let legal : first_move_fault (translate d t.before.0 t.before.1) t.step ≡ None =
+    ap (λ e. first_move_fault e t.step) (sym is) ∙ step_legal translated t.step moved step in
     let grown : size moved ≡ size_after t.step (size d) =
     step_size t.step translated moved step ∙ ap (λ (n : ℕ). size_after t.step n) (ap size is ∙ size-translate d t.before.0 t.before.1 columns) in
-    none_fault (first_fault (translate d t.before.0 t.before.1) t.step) (nat_le (size_after t.step (size d)) cap) legal
+    none_fault (first_move_fault (translate d t.before.0 t.before.1) t.step) (nat_le (size_after t.step (size d)) cap) legal
     ∙ ap (λ (n : ℕ). nat_le n cap) (sym grown)
 
 pub extends_legal : (d translated moved : Diagram) (cap : ℕ) (t : Try) (offer : Offer) (form : LeastForm) (old new : List Offer) → t.before.0 < size d
@@ -108,10 +108,10 @@ extends_large d translated moved cap t old new columns is step large same =
     extends_skip d cap t old new same (legal_offered d translated moved cap t columns is step ∙ lt-leb (size moved) cap large)
 
 pub extends_illegal : (d translated : Diagram) (cap : ℕ) (t : Try) (fault : MoveFault) (old new : List Offer)
-    → translated ≡ translate d t.before.0 t.before.1 → Some fault ≡ first_fault translated t.step → new ≡ old → Extends d cap (t ∷ []) old new
+    → translated ≡ translate d t.before.0 t.before.1 → Some fault ≡ first_move_fault translated t.step → new ≡ old → Extends d cap (t ∷ []) old new
 extends_illegal d translated cap t fault old new is found same =
-    extends_skip d cap t old new same (some_fault (first_fault (translate d t.before.0 t.before.1) t.step) fault (nat_le (size_after t.step (size d)) cap)
-    (ap (λ e. first_fault e t.step) (sym is) ∙ sym found))
+    extends_skip d cap t old new same (some_fault (first_move_fault (translate d t.before.0 t.before.1) t.step) fault (nat_le (size_after t.step (size d)) cap)
+    (ap (λ e. first_move_fault e t.step) (sym is) ∙ sym found))
 
 -- one more of a kind
 pub map_range_more : {A : Type 0} (f : ℕ → A) (n : ℕ) → map f (range_with_len 0 (n + 1)) ≡ map f (range_with_len 0 n) ++ f n ∷ []
@@ -186,6 +186,6 @@ extends_too_large d cap old new large same =
     (flat_map_each (λ t. is_offered d cap t ≡ false) stabilisation_tries (range_with_len 0 (size d)) (λ c.
     All-append (λ t. is_offered d cap t ≡ false) (map (try_stabilisation c Cross) corners) (map (try_stabilisation c Ring) corners)
     (All-map (λ t. is_offered d cap t ≡ false) (try_stabilisation c Cross) corners
-    (λ k e lt. too_large_for (is_none (first_fault (translate d 0 0) (Stabilise c Cross (get_or corners k e)))) (size d + 1) cap large))
+    (λ k e lt. too_large_for (is_none (first_move_fault (translate d 0 0) (Stabilise c Cross (get_or corners k e)))) (size d + 1) cap large))
     (All-map (λ t. is_offered d cap t ≡ false) (try_stabilisation c Ring) corners
-    (λ k e lt. too_large_for (is_none (first_fault (translate d 0 0) (Stabilise c Ring (get_or corners k e)))) (size d + 1) cap large)))))
+    (λ k e lt. too_large_for (is_none (first_move_fault (translate d 0 0) (Stabilise c Ring (get_or corners k e)))) (size d + 1) cap large)))))

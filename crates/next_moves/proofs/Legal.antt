@@ -25,7 +25,7 @@ use Rattle.grid_canon.specs.ShortTrades.{Trades, trades_of, next}
 use Rattle.grid_keys.proofs.Translated.{origin, shifted-origin, size-translate, row_of-translate}
 use Rattle.grid_keys.proofs.Joined.{unshifted}
 use Rattle.lane_spans.specs.Span.{Span as Lane, may_trade_places}
-use Rattle.lane_spans.specs.Columns.{span_at, trades, next_column, AreSpans}
+use Rattle.lane_spans.specs.Columns.{span_at, trades, neighbour_column, AreSpans}
 use Rattle.next_moves.specs.Tries.{shift_before, place_after_shift, try_column_exchange, try_column_slide, try_row_exchange, try_row_slide}
 use Rattle.next_moves.specs.Offers.{is_legal}
 use Rattle.next_moves.proofs.Sides.{shift_before-below, place_after_shift-below, next-below, first_origin, second_origin, shift_before_cases}
@@ -138,7 +138,7 @@ row_has_two_ends d r grid lt = two_ends (column_of Cross d r) (column_of Ring d 
     no_cell_twice d grid (column_of Cross d r) cross.inside (cross.row ∙ sym ring.row ∙ ap (λ (z : ℕ). row_of Ring d z) (sym e)))
 
 -- the next one, by both words
-next_is : (n c : ℕ) → c < n → next_column n c ≡ next n c
+next_is : (n c : ℕ) → c < n → neighbour_column n c ≡ next n c
 next_is n c lt = elim (shift_before_cases n c lt) [
   | inl last ↦ ap (λ (z : ℕ). z % n) last.0 ∙ mod_self n ∙ sym last.3
   | inr other ↦ mod-eq_of_lt other.0 ∙ sym other.3
@@ -156,9 +156,9 @@ listed_trades f n c lt far near_ends far_ends =
     let highs : List ℕ = map (λ k. (f k).high) (range_with_len 0 n) in
     let long : length lows ≡ n = length-map-range_with_len (λ k. (f k).low) 0 n in
     let inside : c < length lows = omega (arith, long, lt) in
-    let second : span_at lows highs (next_column (length lows) c) ≡ lane (f (next n c)) =
-    ap (λ (z : ℕ). span_at lows highs (next_column z c)) long ∙ ap (λ (z : ℕ). span_at lows highs z) (next_is n c lt) ∙ listed f n (next n c) far in
-    ap (λ b. b && may_trade_places (span_at lows highs c) (span_at lows highs (next_column (length lows) c))) (lt-ltb c (length lows) inside)
+    let second : span_at lows highs (neighbour_column (length lows) c) ≡ lane (f (next n c)) =
+    ap (λ (z : ℕ). span_at lows highs (neighbour_column z c)) long ∙ ap (λ (z : ℕ). span_at lows highs z) (next_is n c lt) ∙ listed f n (next n c) far in
+    ap (λ b. b && may_trade_places (span_at lows highs c) (span_at lows highs (neighbour_column (length lows) c))) (lt-ltb c (length lows) inside)
     ∙ ap₂ (λ u v. may_trade_places u v) (listed f n c lt) second ∙ may_trade (f c) (f (next n c)) near_ends far_ends
 
 listed_spans : (f : ℕ → Span) (n : ℕ) → ((c : ℕ) → c < n → (f c).low < (f c).high)

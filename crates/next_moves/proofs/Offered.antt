@@ -12,7 +12,7 @@ use Rattle.next_moves.specs.Tries.{Try, try_column_exchange, try_column_slide, c
 use Rattle.next_moves.specs.Tries.{try_destabilisation, block_tries, stabilisation_tries, trade_tries, all_block_tries, all_stabilisation_tries}
 use Rattle.next_moves.specs.Offers.{is_offered}
 use Rattle.grid_canon.specs.ShortTrades.{next}
-use Rattle.next_moves.specs.Blocks.{row_of_both, counted, passed}
+use Rattle.next_moves.specs.Blocks.{row_of_both, one_if_at, one_if_above}
 use Rattle.next_moves.proofs.Extended.{map_range_more, flat_map_range_more}
 use Rattle.next_moves.proofs.Sides.{passed_more, passed_le}
 use Rattle.next_moves.proofs.BlockRows.{no_other_block}
@@ -43,24 +43,24 @@ kept_each p f b (suc m) each =
 none_kept : {A : Type 0} (p : A → Bool) (t : A) → p t ≡ false → length (filter p (t ∷ [])) ≡ 0
 none_kept p t e = ap (λ b. length (cond b (t ∷ []) [])) e
 
-counted_itself : (r : ℕ) → counted r r ≡ 1
+counted_itself : (r : ℕ) → one_if_at r r ≡ 1
 counted_itself r = grind (arith, nat_tests)
 
 block_counted : (d : Diagram) (cap c r : ℕ) → IsGrid d → c < size d → r < size d
-    → length (filter (is_offered d cap) (try_destabilisation (size d) c r ∷ [])) ≤ counted (row_of_both d c) r + counted (row_of_both d (next (size d) c)) r
+    → length (filter (is_offered d cap) (try_destabilisation (size d) c r ∷ [])) ≤ one_if_at (row_of_both d c) r + one_if_at (row_of_both d (next (size d) c)) r
 block_counted d cap c r grid hc hr =
     let most = kept_le (is_offered d cap) (try_destabilisation (size d) c r ∷ []) in
     elim (cases_eq r (row_of_both d c)) [
-      | inl near ↦ omega (arith, most, ap (λ (z : ℕ). counted z r) (sym near) ∙ counted_itself r)
+      | inl near ↦ omega (arith, most, ap (λ (z : ℕ). one_if_at z r) (sym near) ∙ counted_itself r)
       | inr other ↦ elim (cases_eq r (row_of_both d (next (size d) c))) [
-        | inl far ↦ omega (arith, most, ap (λ (z : ℕ). counted z r) (sym far) ∙ counted_itself r)
+        | inl far ↦ omega (arith, most, ap (λ (z : ℕ). one_if_at z r) (sym far) ∙ counted_itself r)
         | inr neither ↦ omega (arith, none_kept (is_offered d cap) (try_destabilisation (size d) c r) (no_other_block d cap c r grid hc hr other neither))
       ]
     ]
 
 blocks_passed : (d : Diagram) (cap c m : ℕ) → IsGrid d → c < size d → m ≤ size d
     → length (filter (is_offered d cap) (map (try_destabilisation (size d) c) (range_with_len 0 m)))
-    ≤ passed (row_of_both d c) m + passed (row_of_both d (next (size d) c)) m
+    ≤ one_if_above (row_of_both d c) m + one_if_above (row_of_both d (next (size d) c)) m
 blocks_passed d cap c zero grid hc le = omega arith
 blocks_passed d cap c (suc m) grid hc le =
     let p = is_offered d cap in
@@ -74,8 +74,8 @@ blocks_passed d cap c (suc m) grid hc le =
       block_counted d cap c m grid hc (omega (arith, le)),
       kept_append p (map f (range_with_len 0 m)) (f m ∷ []),
       ap (λ ts. length (filter p ts)) (ap (λ (z : ℕ). map f (range_with_len 0 z)) one ∙ map_range_more f m),
-      ap (passed near) one ∙ passed_more near m,
-      ap (passed far) one ∙ passed_more far m,
+      ap (one_if_above near) one ∙ passed_more near m,
+      ap (one_if_above far) one ∙ passed_more far m,
     )
 
 pub blocks_offered : (d : Diagram) (cap : ℕ) → IsGrid d → length (filter (is_offered d cap) (all_block_tries (size d))) ≤ 2 * size d

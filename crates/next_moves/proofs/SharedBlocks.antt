@@ -8,7 +8,7 @@ use Rattle.grid_core.specs.Span.{span, share_one_end}
 use Rattle.grid_core.specs.Parts.{column_span}
 use Rattle.grid_core.proofs.Marks.{row_below, no_cell_twice}
 use Rattle.grid_moves.specs.declared.step.Move.TheVariants.{Destabilise}
-use Rattle.grid_moves.specs.MoveFault.{first_fault}
+use Rattle.grid_moves.specs.MoveFault.{first_move_fault}
 use Rattle.grid_moves.specs.Shift.{shifted}
 use Rattle.grid_moves.specs.SizeAfter.{size_after}
 use Rattle.grid_moves.specs.Step.{Step}
@@ -173,7 +173,7 @@ module _ (d : Diagram) (c r : ℕ) (grid : IsGrid d) (hc : c < size d) (hr : r <
 
   pub not_shared : (cap : ℕ) → share_one_end (column_span d c) (column_span d far) ≡ false → is_offered d cap (try_destabilisation (size d) c r) ≡ false
   not_shared cap none =
-      not_none (first_fault moved (Destabilise left low)) (nat_le (size_after (Destabilise left low) (size d)) cap) (λ legal.
+      not_none (first_move_fault moved (Destabilise left low)) (nat_le (size_after (Destabilise left low) (size d)) cap) (λ legal.
       let translated = translate-grid d columns rows grid columns_inside (shift_before-below (size d) r grid.least hr) in
       let found = step_exists moved (Destabilise left low) translated legal in
       absurd (let no : false ≡ true = sym none ∙ block_shares found.0 found.1 in cc))

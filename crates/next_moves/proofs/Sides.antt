@@ -8,7 +8,7 @@ use Rattle.grid_moves.specs.declared.step.Move.{Move}
 use Rattle.grid_moves.specs.declared.step.Move.TheVariants.{Destabilise}
 use Rattle.next_moves.specs.Tries.{Try, shift_before, place_after_shift, try_destabilisation}
 use Rattle.grid_canon.specs.ShortTrades.{next}
-use Rattle.next_moves.specs.Blocks.{first_of_pair, counted, passed}
+use Rattle.next_moves.specs.Blocks.{first_of_pair, one_if_at, one_if_above}
 
 -- the last, or any other
 pub shift_before_cases : (n c : ℕ) → c < n → ((c + 1 ≡ n) × (shift_before n c ≡ 1) × (place_after_shift n c ≡ n - 2) × (next n
@@ -120,8 +120,8 @@ row_made step n r b q eb eq = ap₂ (λ (z w : ℕ). made z w) eb eq
     made b q = record { before = (0, b); step = step q }
 
 -- at most one row is counted
-pub passed_more : (a r : ℕ) → passed a (r + 1) ≡ passed a r + counted a r
+pub passed_more : (a r : ℕ) → one_if_above a (r + 1) ≡ one_if_above a r + one_if_at a r
 passed_more a r = grind (arith, nat_tests)
 
-pub passed_le : (a r : ℕ) → passed a r ≤ 1
+pub passed_le : (a r : ℕ) → one_if_above a r ≤ 1
 passed_le a r = grind (arith, nat_tests)

@@ -5,7 +5,7 @@ use Rattle.grid_core.specs.Diagram.{Diagram, IsGrid, size}
 use Rattle.grid_moves.specs.declared.step.Move.{Move}
 use Rattle.grid_moves.specs.declared.step.Move.TheVariants.{ExchangeColumns, ExchangeRows, SlideColumns, SlideRows}
 use Rattle.grid_moves.specs.declared.step.MoveFault.{MoveFault}
-use Rattle.grid_moves.specs.MoveFault.{first_fault}
+use Rattle.grid_moves.specs.MoveFault.{first_move_fault}
 use Rattle.grid_moves.specs.Exchanged.{columns_exchanged, rows_exchanged}
 use Rattle.grid_moves.specs.Step.{Step}
 use Rattle.grid_moves.proofs.OneResult.{moved, moved_step}
@@ -23,7 +23,7 @@ legal_step : (d : Diagram) (try : Try) → IsGrid d → try.before.0 < size d �
     → Step (translate d try.before.0 try.before.1) try.step (moved try.step (translate d try.before.0 try.before.1))
 legal_step d try grid columns rows legal =
     moved_step (translate d try.before.0 try.before.1) try.step (translate-grid d try.before.0 try.before.1 grid columns rows)
-    (none_of (first_fault (translate d try.before.0 try.before.1) try.step) legal)
+    (none_of (first_move_fault (translate d try.before.0 try.before.1) try.step) legal)
 
 module _ (d : Diagram) (c by place : ℕ) (grid : IsGrid d) (lt : c < size d) (shift : by ≡ shift_before (size d) c)
     (stands : place ≡ place_after_shift (size d) c) where

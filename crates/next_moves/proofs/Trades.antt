@@ -11,7 +11,7 @@ use Rattle.grid_moves.specs.declared.step.Move.{Move}
 use Rattle.grid_moves.specs.declared.step.Move.TheVariants.{ExchangeColumns, ExchangeRows, SlideColumns, SlideRows}
 use Rattle.grid_moves.specs.declared.step.MoveFault.{MoveFault}
 use Rattle.grid_moves.specs.declared.step.MoveFault.TheVariants.{Range, Touching, Interleaved, Apart}
-use Rattle.grid_moves.specs.MoveFault.{first_fault, exchange_fault, slide_fault}
+use Rattle.grid_moves.specs.MoveFault.{first_move_fault, exchange_fault, slide_fault}
 use Rattle.grid_keys.specs.Translation.{translate}
 use Rattle.next_moves.specs.declared.links.Offer.{Offer}
 use Rattle.next_moves.specs.Tries.{Try, shift_before, place_after_shift, try_column_exchange, try_column_slide, column_trade_tries}
@@ -38,8 +38,8 @@ refused true fault e = e
 refused false fault e = refl
 
 not_offered : (d : Diagram) (cap : ℕ) (before : ℕ × ℕ) (translated : Diagram) (step : Move) → translated ≡ translate d before.0 before.1
-    → is_none (first_fault translated step) ≡ false → is_offered d cap (record { before = before; step = step }) ≡ false
-not_offered d cap before translated step is e = ap (λ b. b && nat_le (size_after step (size d)) cap) (ap (λ f. is_none (first_fault f step)) (sym is) ∙ e)
+    → is_none (first_move_fault translated step) ≡ false → is_offered d cap (record { before = before; step = step }) ≡ false
+not_offered d cap before translated step is e = ap (λ b. b && nat_le (size_after step (size d)) cap) (ap (λ f. is_none (first_move_fault f step)) (sym is) ∙ e)
 
 -- of two tries one that is not offered
 extends_second : (d : Diagram) (cap : ℕ) (s t : Try) (old new : List Offer) → is_offered d cap s ≡ false → Extends d cap (t ∷ []) old new
@@ -52,11 +52,12 @@ extends_first d cap s t old new e one = extends_then d cap (s ∷ []) (t ∷ [])
 
 -- columns: of the exchange and the slide the one that is not taken has a fault
 column_exchange_refused : (d : Diagram) (c : ℕ) → share_an_end (column_span d c) (column_span d (c + 1)) ≡ true
-    → is_none (first_fault d (ExchangeColumns c)) ≡ false
+    → is_none (first_move_fault d (ExchangeColumns c)) ≡ false
 column_exchange_refused d c shared =
     refused (nat_lt (c + 1) (size d)) (exchange_fault (column_span d c) (column_span d (c + 1))) (touching (column_span d c) (column_span d (c + 1)) shared)
 
-column_slide_refused : (d : Diagram) (c : ℕ) → share_an_end (column_span d c) (column_span d (c + 1)) ≡ false → is_none (first_fault d (SlideColumns c)) ≡ false
+column_slide_refused : (d : Diagram) (c : ℕ) → share_an_end (column_span d c) (column_span d (c + 1)) ≡ false
+    → is_none (first_move_fault d (SlideColumns c)) ≡ false
 column_slide_refused d c apart =
     refused (nat_lt (c + 1) (size d)) (slide_fault (column_span d c) (column_span d (c + 1))) (parted (column_span d c) (column_span d (c + 1)) apart)
 
@@ -71,10 +72,10 @@ columns_once d cap n c =
     ]
 
 -- rows: of the exchange and the slide the one that is not taken has a fault
-row_exchange_refused : (d : Diagram) (r : ℕ) → share_an_end (ends d r) (ends d (r + 1)) ≡ true → is_none (first_fault d (ExchangeRows r)) ≡ false
+row_exchange_refused : (d : Diagram) (r : ℕ) → share_an_end (ends d r) (ends d (r + 1)) ≡ true → is_none (first_move_fault d (ExchangeRows r)) ≡ false
 row_exchange_refused d r shared = refused (nat_lt (r + 1) (size d)) (exchange_fault (ends d r) (ends d (r + 1))) (touching (ends d r) (ends d (r + 1)) shared)
 
-row_slide_refused : (d : Diagram) (r : ℕ) → share_an_end (ends d r) (ends d (r + 1)) ≡ false → is_none (first_fault d (SlideRows r)) ≡ false
+row_slide_refused : (d : Diagram) (r : ℕ) → share_an_end (ends d r) (ends d (r + 1)) ≡ false → is_none (first_move_fault d (SlideRows r)) ≡ false
 row_slide_refused d r apart = refused (nat_lt (r + 1) (size d)) (slide_fault (ends d r) (ends d (r + 1))) (parted (ends d r) (ends d (r + 1)) apart)
 
 pub rows_once : (d : Diagram) (cap n r : ℕ) → (is_offered d cap (try_row_exchange n r) ≡ false) ⊎ (is_offered d cap (try_row_slide n r) ≡ false)

@@ -26,9 +26,9 @@ abbrev pub block_tries_at : ℕ → ℕ → ℕ → ℕ → List Try
 block_tries_at n c first second = map (try_destabilisation n c) (if_below n first ++ if_below n second)
 
 -- 1 where r is this row, else 0
-abbrev pub counted : ℕ → ℕ → ℕ
-counted row r = if r == row then 1 else 0
+abbrev pub one_if_at : ℕ → ℕ → ℕ
+one_if_at row r = if r == row then 1 else 0
 
 -- 1 where this row is below r, else 0
-abbrev pub passed : ℕ → ℕ → ℕ
-passed row r = if nat_lt row r then 1 else 0
+abbrev pub one_if_above : ℕ → ℕ → ℕ
+one_if_above row r = if nat_lt row r then 1 else 0

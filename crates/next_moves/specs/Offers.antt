@@ -6,7 +6,7 @@ use Rattle.grid_core.specs.declared.grid.TheConstants.{MAX_SIZE}
 use Rattle.grid_core.specs.Diagram.{Diagram, IsGrid, size}
 use Rattle.grid_moves.specs.SizeAfter.{size_after}
 use Rattle.grid_moves.specs.Step.{Step}
-use Rattle.grid_moves.specs.MoveFault.{first_fault}
+use Rattle.grid_moves.specs.MoveFault.{first_move_fault}
 use Rattle.grid_keys.specs.declared.key.Packed.{Packed}
 use Rattle.grid_keys.specs.Translation.{translate}
 use Rattle.grid_keys.specs.CanonicalForm.{IsCanonical, IsLeastForm}
@@ -18,7 +18,7 @@ use Rattle.next_moves.specs.Tries.{Try, tries}
 
 -- the move is legal on its translate of d
 abbrev pub is_legal : Diagram → Try → Bool
-is_legal d try = is_none (first_fault (translate d try.before.0 try.before.1) try.step)
+is_legal d try = is_none (first_move_fault (translate d try.before.0 try.before.1) try.step)
 
 -- it is, and its result is not larger than the cap
 abbrev pub is_offered : Diagram → ℕ → Try → Bool
@@ -61,7 +61,7 @@ pub record Neighbourhood : Type 0 where
   pub offers : List Offer
 
 -- the list is whole: that of the canonical grid which the key names, within a cap from its size to `MAX_SIZE`
-pub record IsWhole (n : Neighbourhood) : Type 0 where
+pub record IsWholeNeighbourhood (n : Neighbourhood) : Type 0 where
   pub diagram : Diagram
   pub grid : IsGrid diagram
   pub canonical : IsCanonical diagram

@@ -16,7 +16,7 @@ ghost use Rattle.grid_keys.specs.CanonicalForm.{IsCanonicalForm, IsCanonical};
 ghost use Rattle.grid_keys.specs.Key.{key_of};
 ghost use Rattle.next_moves.specs.Neighbours.{IsNeighbour};
 ghost use Rattle.next_moves.specs.Tries.{trade_tries, try_column_exchange, try_row_exchange, all_block_tries, all_stabilisation_tries};
-ghost use Rattle.next_moves.specs.Offers.{is_legal, is_offered, Leads, IsOfferList, Neighbourhood, IsWhole};
+ghost use Rattle.next_moves.specs.Offers.{is_legal, is_offered, Leads, IsOfferList, Neighbourhood, IsWholeNeighbourhood};
 ghost use Rattle.next_moves.specs.Links.{link_moves};
 ghost use Rattle.next_moves.specs.Reach.{IsReached, AreMembers, HasMembers, HasMoreMembers};
 
@@ -194,7 +194,7 @@ pub fn neighbours_and_forms_are_reached()
 /// Whole lists of offers are those of the grid that their key names.
 pub fn offers_are_those_of_their_key()
     ensures { (n : Neighbourhood) (d : Diagram)
-        → IsWhole n
+        → IsWholeNeighbourhood n
         → IsGrid d
         → key_of d ≡ n.origin
         → IsOfferList d n.cap n.offers }

@@ -25,17 +25,17 @@ pub struct Offers {
 }
 
 impl Model for Offers {
-    ghost use Rattle.next_moves.specs.Offers.{Neighbourhood, IsWhole};
+    ghost use Rattle.next_moves.specs.Offers.{Neighbourhood, IsWholeNeighbourhood};
 
     ghost Value = { Neighbourhood };
 
     ghost view = { λ o. record { origin = o.origin; cap = o.cap; offers = o.list.items } };
 
-    ghost invariant = { λ o. IsWhole (record { origin = o.origin; cap = o.cap; offers = o.list.items }) };
+    ghost invariant = { λ o. IsWholeNeighbourhood (record { origin = o.origin; cap = o.cap; offers = o.list.items }) };
 }
 
 impl Offers {
-    ghost use Rattle.next_moves.specs.Offers.{IsWhole};
+    ghost use Rattle.next_moves.specs.Offers.{IsWholeNeighbourhood};
 
     /// The offers of a diagram that is its own canonical form, within a cap from its size to `MAX_SIZE`.
     /// The form's shifts are not looked at. Takes no memory.
@@ -91,7 +91,7 @@ impl Offers {
     /// The offers, in order.
     pub fn offers(&self) -> &[Offer]
         ensures offers { result.now ≡ self.now.offers }
-        ensures whole { IsWhole self.now }
+        ensures whole { IsWholeNeighbourhood self.now }
     {
         self.list.as_slice()
     }

@@ -20,7 +20,7 @@ use Rattle.evidence_core.specs.declared.evidence.Counted.{Counted}
 use Rattle.evidence_core.specs.declared.cause.Cause.{Cause}
 use Rattle.evidence_core.specs.declared.cause.Cause.TheVariants as cause
 use Rattle.evidence_core.specs.Unequal.{first_unequal}
-use Rattle.number_check.specs.Holds.{table_of, choices_by, numbers_by, AreNumbersOf}
+use Rattle.number_check.specs.EvidenceHolds.{table_by_block, choices_by, numbers_by, AreNumbersOf}
 use Rattle.number_check.specs.Cause.{IsSeedCause, counts_cause, IsCauseOf}
 use Rattle.evidence_core.proofs.FirstUnequal.{equal_of_none, none_of_equal}
 use Rattle.evidence_core.specs.Links.{place_cause}
@@ -33,14 +33,14 @@ itself a = (Decides-eqb a a).1 refl
 
 -- without a cause the numbers are the diagram's own
 pub numbers_hold : (b : Block) (which : ℕ) (d : Diagram) (c : Counted) → Determine c.seeds.items d → counts_cause b which d c ≡ None → AreNumbersOf b d c
-numbers_hold b which d c settled none = by (nat_le ((table_of b).order ^ choices_by b (length c.seeds.items)) MAX_CANDIDATES) refl none
+numbers_hold b which d c settled none = by (nat_le ((table_by_block b).order ^ choices_by b (length c.seeds.items)) MAX_CANDIDATES) refl none
   where
-    by : (t : Bool) → nat_le ((table_of b).order ^ choices_by b (length c.seeds.items)) MAX_CANDIDATES ≡ t
+    by : (t : Bool) → nat_le ((table_by_block b).order ^ choices_by b (length c.seeds.items)) MAX_CANDIDATES ≡ t
         → or_else (cond t None (Some (cause.Wide which (length c.seeds.items)))) (place_cause which (first_unequal nat_eq c.numbers (numbers_by b d))) ≡ None
         → AreNumbersOf b d c
     by true few none = record {
       settled = settled;
-      few = leb-true ((table_of b).order ^ choices_by b (length c.seeds.items)) MAX_CANDIDATES few;
+      few = leb-true ((table_by_block b).order ^ choices_by b (length c.seeds.items)) MAX_CANDIDATES few;
       own = equal_of_none nat_eq eqb-true c.numbers (numbers_by b d) (no_place which (first_unequal nat_eq c.numbers (numbers_by b d)) none);
     }
     by false many none = absurd cc
@@ -48,8 +48,8 @@ numbers_hold b which d c settled none = by (nat_le ((table_of b).order ^ choices
 -- and where they are, there is none
 pub numbers_faultless : (b : Block) (which : ℕ) (d : Diagram) (c : Counted) → AreNumbersOf b d c → counts_cause b which d c ≡ None
 numbers_faultless b which d c are =
-    let few : nat_le ((table_of b).order ^ choices_by b (length c.seeds.items)) MAX_CANDIDATES ≡ true =
-    le-leb ((table_of b).order ^ choices_by b (length c.seeds.items)) MAX_CANDIDATES are.few in
+    let few : nat_le ((table_by_block b).order ^ choices_by b (length c.seeds.items)) MAX_CANDIDATES ≡ true =
+    le-leb ((table_by_block b).order ^ choices_by b (length c.seeds.items)) MAX_CANDIDATES are.few in
     let same : first_unequal nat_eq c.numbers (numbers_by b d) ≡ None =
     ap (λ (xs : List ℕ). first_unequal nat_eq xs (numbers_by b d)) are.own ∙ none_of_equal nat_eq itself (numbers_by b d) in
     rw (few, same) refl
@@ -85,14 +85,15 @@ choices_more (Some (Strands w)) few many le = le
 choices_more (Some (Regions s)) few many le = let more : few + 1 ≤ many + 1 = omega (arith, le) in more
 
 -- seeds that have few choices give a plan that fits
-pub fits_there : (b : Block) (plan : List Step) (seeds : ℕ) → 1 ≤ (table_of b).order → seeds_in plan ≤ seeds
-    → nat_le ((table_of b).order ^ choices_by b seeds) MAX_CANDIDATES ≡ true → fits_by b.listed.table b.cocycle plan ≡ true
+pub fits_there : (b : Block) (plan : List Step) (seeds : ℕ) → 1 ≤ (table_by_block b).order → seeds_in plan ≤ seeds
+    → nat_le ((table_by_block b).order ^ choices_by b seeds) MAX_CANDIDATES ≡ true → fits_by b.listed.table b.cocycle plan ≡ true
 fits_there b plan seeds some few narrow =
-    let up : (table_of b).order ^ choices_by b (seeds_in plan) ≤ (table_of b).order ^ choices_by b seeds =
-    pow-le-pow_right {n = (table_of b).order} some {i = choices_by b (seeds_in plan)} {j = choices_by b seeds}
+    let up : (table_by_block b).order ^ choices_by b (seeds_in plan) ≤ (table_by_block b).order ^ choices_by b seeds =
+    pow-le-pow_right {n = (table_by_block b).order} some {i = choices_by b (seeds_in plan)} {j = choices_by b seeds}
     (choices_more b.cocycle (seeds_in plan) seeds few) in
-    let most : (table_of b).order ^ choices_by b seeds ≤ MAX_CANDIDATES = leb-true ((table_of b).order ^ choices_by b seeds) MAX_CANDIDATES narrow in
-    le-leb ((table_of b).order ^ choices_by b (seeds_in plan)) MAX_CANDIDATES (omega (arith, up, most))
+    let most : (table_by_block b).order ^ choices_by b seeds ≤ MAX_CANDIDATES =
+    leb-true ((table_by_block b).order ^ choices_by b seeds) MAX_CANDIDATES narrow in
+    le-leb ((table_by_block b).order ^ choices_by b (seeds_in plan)) MAX_CANDIDATES (omega (arith, up, most))
 
 -- a column that the seeds do not settle is a cause
 pub unsettled_cause : (b : Block) (which : ℕ) (d : Diagram) (c : Counted) (seeds : List ℕ) (column : ℕ) → seeds ≡ c.seeds.items

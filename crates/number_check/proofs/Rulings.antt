@@ -9,12 +9,12 @@ use Rattle.evidence_core.specs.declared.blocks.Block.{Block}
 use Rattle.evidence_core.specs.declared.evidence.Counted.{Counted}
 use Rattle.evidence_core.specs.declared.evidence.Evidence.{Evidence}
 use Rattle.evidence_core.specs.declared.evidence.Evidence.TheVariants.{Numbers, Linking}
-use Rattle.evidence_core.specs.declared.cause.Ruling.{Ruling}
-use Rattle.evidence_core.specs.declared.cause.Ruling.TheVariants.{Accepted, Rejected}
+use Rattle.evidence_core.specs.declared.cause.NumberRuling.{NumberRuling}
+use Rattle.evidence_core.specs.declared.cause.NumberRuling.TheVariants.{Accepted, Rejected}
 use Rattle.evidence_core.specs.declared.cause.Cause.{Cause}
-use Rattle.number_check.specs.Holds.{NumbersDiffer, Holds}
-use Rattle.number_check.specs.Cause.{IsCause}
-use Rattle.number_check.specs.Ruling.{RulesOn}
+use Rattle.number_check.specs.EvidenceHolds.{NumbersDiffer, EvidenceHolds}
+use Rattle.number_check.specs.Cause.{IsEvidenceCause}
+use Rattle.number_check.specs.Ruling.{RulesOnNumbers}
 use Rattle.number_check.proofs.Causes.{numbers_have_no_cause}
 use Rattle.evidence_core.proofs.LinksOfGrids.{links_have_no_cause}
 
@@ -27,7 +27,7 @@ numbers_apart d e b one two quandle cocycle holds joined =
 
 -- ---- evidence that holds has no cause
 
-pub not_held : (d e : Diagram) (evidence : Evidence) (c : Cause) → IsCause d e evidence c → Holds d e evidence → ⊥
+pub not_held : (d e : Diagram) (evidence : Evidence) (c : Cause) → IsEvidenceCause d e evidence c → EvidenceHolds d e evidence → ⊥
 not_held d e (Numbers b one two) c is holds = elim is [
   | inl first ↦ numbers_have_no_cause b 1 d one c first holds.first
   | inr later ↦ elim later.1 [
@@ -39,6 +39,7 @@ not_held d e (Linking one two) c is holds =
     let no : ◌≡◌ {A = Option Cause} None (Some c) = sym (links_have_no_cause d e one two holds) ∙ is in
     cc
 
-pub accepted_where_held : (d e : Diagram) (evidence : Evidence) (ruling : Ruling) → RulesOn d e evidence ruling → (ruling ≡ Accepted) ↔ Holds d e evidence
+pub accepted_where_held : (d e : Diagram) (evidence : Evidence) (ruling : NumberRuling) → RulesOnNumbers d e evidence ruling
+    → (ruling ≡ Accepted) ↔ EvidenceHolds d e evidence
 accepted_where_held d e evidence Accepted rules = ((λ is. rules), (λ holds. refl))
 accepted_where_held d e evidence (Rejected c) rules = ((λ is. absurd cc), (λ holds. absurd (not_held d e evidence c rules holds)))

@@ -13,7 +13,7 @@ use Rattle.evidence_core.specs.declared.evidence.Evidence.TheVariants.{Numbers, 
 use Rattle.evidence_core.specs.declared.cause.Cause.{Cause}
 use Rattle.evidence_core.specs.declared.cause.Cause.TheVariants as cause
 use Rattle.evidence_core.specs.Unequal.{first_unequal}
-use Rattle.number_check.specs.Holds.{table_of, choices_by, numbers_by, AreNumbersOf}
+use Rattle.number_check.specs.EvidenceHolds.{table_by_block, choices_by, numbers_by, AreNumbersOf}
 use Rattle.evidence_core.specs.Links.{place_cause, cause_of_links}
 
 -- ---- the numbers of colourings of the diagram of this number
@@ -25,12 +25,12 @@ IsSeedCause which d seeds (cause.Unsettled w c) = (w ≡ which) × IsFault seeds
 IsSeedCause which d seeds _ = ⊥
 
 -- so many seeds have too many choices of colours
-abbrev pub wide : Block → ℕ → ℕ → Option Cause
-wide b which seeds = if nat_le ((table_of b).order ^ choices_by b seeds) MAX_CANDIDATES then None else Some (cause.Wide which seeds)
+abbrev pub wide_seeds : Block → ℕ → ℕ → Option Cause
+wide_seeds b which seeds = if nat_le ((table_by_block b).order ^ choices_by b seeds) MAX_CANDIDATES then None else Some (cause.Wide which seeds)
 
 -- why these numbers are not shown to be its own by so many seeds that settle it
 abbrev pub settled_cause : Block → ℕ → Diagram → ℕ → List ℕ → Option Cause
-settled_cause b which d seeds numbers = or_else (wide b which seeds) (place_cause which (first_unequal nat_eq numbers (numbers_by b d)))
+settled_cause b which d seeds numbers = or_else (wide_seeds b which seeds) (place_cause which (first_unequal nat_eq numbers (numbers_by b d)))
 
 -- why its numbers are not shown to be its own by seeds that settle it
 abbrev pub counts_cause : Block → ℕ → Diagram → Counted → Option Cause
@@ -42,8 +42,8 @@ IsCauseOf b which d c cause = IsSeedCause which d c.seeds.items cause ⊎ (Deter
 -- ---- either
 
 -- the first cause for which the evidence does not hold: that of the first diagram, else that of the second, else that both are the same
-abbrev pub IsCause : Diagram → Diagram → Evidence → Cause → Type 0
-IsCause d e (Numbers b one two) c =
+abbrev pub IsEvidenceCause : Diagram → Diagram → Evidence → Cause → Type 0
+IsEvidenceCause d e (Numbers b one two) c =
     IsCauseOf b 1 d one c
     ⊎ (AreNumbersOf b d one × (IsCauseOf b 2 e two c ⊎ (AreNumbersOf b e two × ((one.numbers ≡ two.numbers) × (c ≡ cause.Equal)))))
-IsCause d e (Linking one two) c = cause_of_links d e one two ≡ Some c
+IsEvidenceCause d e (Linking one two) c = cause_of_links d e one two ≡ Some c

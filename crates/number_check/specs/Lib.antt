@@ -1,4 +1,4 @@
-pub mod Holds
+pub mod EvidenceHolds
 pub mod Cause
 pub mod Ruling
 pub use Rattle.colour_seeds.specs.Settled

@@ -1,12 +1,12 @@
 -- What a checker of evidence by numbers answers.
 use Rattle.grid_core.specs.Diagram.{Diagram}
 use Rattle.evidence_core.specs.declared.evidence.Evidence.{Evidence}
-use Rattle.evidence_core.specs.declared.cause.Ruling.{Ruling}
-use Rattle.evidence_core.specs.declared.cause.Ruling.TheVariants.{Accepted, Rejected}
-use Rattle.number_check.specs.Holds.{Holds}
-use Rattle.number_check.specs.Cause.{IsCause}
+use Rattle.evidence_core.specs.declared.cause.NumberRuling.{NumberRuling}
+use Rattle.evidence_core.specs.declared.cause.NumberRuling.TheVariants.{Accepted, Rejected}
+use Rattle.number_check.specs.EvidenceHolds.{EvidenceHolds}
+use Rattle.number_check.specs.Cause.{IsEvidenceCause}
 
 -- evidence is accepted where it holds, else rejected for the first cause
-abbrev pub RulesOn : Diagram → Diagram → Evidence → Ruling → Type 0
-RulesOn d e evidence Accepted = Holds d e evidence
-RulesOn d e evidence (Rejected cause) = IsCause d e evidence cause
+abbrev pub RulesOnNumbers : Diagram → Diagram → Evidence → NumberRuling → Type 0
+RulesOnNumbers d e evidence Accepted = EvidenceHolds d e evidence
+RulesOnNumbers d e evidence (Rejected cause) = IsEvidenceCause d e evidence cause

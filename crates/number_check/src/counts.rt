@@ -4,7 +4,7 @@ ghost use Rattle.colour_seeds.specs.declared.counting.TheConstants.{MAX_CANDIDAT
 ghost use Rattle.colour_numbers.specs.Numbers.{fits_by};
 ghost use Rattle.colour_seeds.specs.Settled.{Determine};
 ghost use Rattle.colour_seeds.specs.Plan.{IsPlan, seeds_in};
-ghost use Rattle.number_check.specs.Holds.{AreNumbersOf, table_of, numbers_by};
+ghost use Rattle.number_check.specs.EvidenceHolds.{AreNumbersOf, table_by_block, numbers_by};
 ghost use Rattle.number_check.specs.Cause.{IsCauseOf, settled_cause};
 
 use colour_numbers::{choices_of, numbers};
@@ -105,7 +105,7 @@ pub fn numbers_by(
 
 /// The operations of the quandle that gives a block's colours: that of its cocycle, if it has one.
 pub fn colouring_quandle(block: &Block) -> Operations<'_>
-    ensures { result ≡ table_of block.now }
+    ensures { result ≡ table_by_block block.now }
 {
     match &block.cocycle {
         None => block.listed.operations(),

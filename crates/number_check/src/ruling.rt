@@ -4,12 +4,12 @@ ghost use Rattle.grid_moves.specs.Joining.{Equivalent};
 ghost use Rattle.quandle_core.specs.Quandle.{IsQuandle};
 ghost use Rattle.colour_numbers.specs.Numbers.{IsCocycleOrNone};
 ghost use Rattle.evidence_core.specs.declared.evidence.Evidence.TheVariants.{Numbers, Linking};
-ghost use Rattle.number_check.specs.Holds.{Holds};
-ghost use Rattle.number_check.specs.Ruling.{RulesOn};
+ghost use Rattle.number_check.specs.EvidenceHolds.{EvidenceHolds};
+ghost use Rattle.number_check.specs.Ruling.{RulesOnNumbers};
 
 use crate::counts::cause_of_counts;
 use evidence_core::{
-    Block, Cause, Counted, Evidence, LargeWeighing, Linked, Ruling, cause_of_links,
+    Block, Cause, Counted, Evidence, LargeWeighing, Linked, NumberRuling, cause_of_links,
 };
 use grid_core::Grid;
 use memory_core::OutOfMemory;
@@ -24,10 +24,10 @@ pub fn rule(
     first: &Grid,
     second: &Grid,
     evidence: &Evidence,
-) -> Result<Ruling, OutOfMemory>
-    ensures ruling { IfOk result (λ r. RulesOn first.now second.now evidence.now r) }
-    ensures accepted { IfOk result (λ r. (r ≡ Ruling.Accepted) ↔ Holds first.now second.now evidence.now) }
-    ensures apart { IfOk result (λ r. r ≡ Ruling.Accepted → Equivalent first.now second.now → ⊥) }
+) -> Result<NumberRuling, OutOfMemory>
+    ensures ruling { IfOk result (λ r. RulesOnNumbers first.now second.now evidence.now r) }
+    ensures accepted { IfOk result (λ r. (r ≡ NumberRuling.Accepted) ↔ EvidenceHolds first.now second.now evidence.now) }
+    ensures apart { IfOk result (λ r. r ≡ NumberRuling.Accepted → Equivalent first.now second.now → ⊥) }
 {
     let ruling = ruled(alloc, first, second, evidence)?;
     Ok(ruling)
@@ -39,9 +39,9 @@ fn ruled(
     first: &Grid,
     second: &Grid,
     evidence: &Evidence,
-) -> Result<Ruling, OutOfMemory>
-    ensures ruling { IfOk result (λ r. RulesOn first.now second.now evidence.now r) }
-    ensures apart { IfOk result (λ r. r ≡ Ruling.Accepted → Equivalent first.now second.now → ⊥) }
+) -> Result<NumberRuling, OutOfMemory>
+    ensures ruling { IfOk result (λ r. RulesOnNumbers first.now second.now evidence.now r) }
+    ensures apart { IfOk result (λ r. r ≡ NumberRuling.Accepted → Equivalent first.now second.now → ⊥) }
 {
     match evidence {
         Evidence::Numbers {
@@ -64,21 +64,21 @@ fn rule_counts(
     block: &Block,
     one: &Counted,
     two: &Counted,
-) -> Result<Ruling, OutOfMemory>
-    ensures ruling { IfOk result (λ r. RulesOn first.now second.now (Numbers block.now one.now two.now) r) }
-    ensures apart { IfOk result (λ r. r ≡ Ruling.Accepted → Equivalent first.now second.now → ⊥) }
+) -> Result<NumberRuling, OutOfMemory>
+    ensures ruling { IfOk result (λ r. RulesOnNumbers first.now second.now (Numbers block.now one.now two.now) r) }
+    ensures apart { IfOk result (λ r. r ≡ NumberRuling.Accepted → Equivalent first.now second.now → ⊥) }
 {
     laws_of(block);
     if let Some(cause) = cause_of_counts(alloc, 1, first, block, one)? {
-        return Ok(Ruling::Rejected(cause));
+        return Ok(NumberRuling::Rejected(cause));
     }
     if let Some(cause) = cause_of_counts(alloc, 2, second, block, two)? {
-        return Ok(Ruling::Rejected(cause));
+        return Ok(NumberRuling::Rejected(cause));
     }
     if one.numbers.as_slice() == two.numbers.as_slice() {
-        return Ok(Ruling::Rejected(Cause::Equal));
+        return Ok(NumberRuling::Rejected(Cause::Equal));
     }
-    Ok(Ruling::Accepted)
+    Ok(NumberRuling::Accepted)
 }
 
 /// A block's quandle is one, and so is its cocycle, if there is one. It does nothing.
@@ -107,12 +107,12 @@ fn rule_links(
     second: &Grid,
     one: &Linked,
     two: &Linked,
-) -> Result<Ruling, OutOfMemory>
-    ensures ruling { IfOk result (λ r. RulesOn first.now second.now (Linking one.now two.now) r) }
-    ensures apart { IfOk result (λ r. r ≡ Ruling.Accepted → Equivalent first.now second.now → ⊥) }
+) -> Result<NumberRuling, OutOfMemory>
+    ensures ruling { IfOk result (λ r. RulesOnNumbers first.now second.now (Linking one.now two.now) r) }
+    ensures apart { IfOk result (λ r. r ≡ NumberRuling.Accepted → Equivalent first.now second.now → ⊥) }
 {
     match cause_of_links(alloc, first, second, one, two)? {
-        Some(cause) => Ok(Ruling::Rejected(cause)),
-        None => Ok(Ruling::Accepted),
+        Some(cause) => Ok(NumberRuling::Rejected(cause)),
+        None => Ok(NumberRuling::Accepted),
     }
 }

@@ -3,13 +3,13 @@ use Rattle.std.proofs.Common.{◌≡◌, ◌∙◌, ◌<◌, ◌+◌, ◌*◌, �
 use Rattle.std.specs.List.{range_with_len}
 use Rattle.std.proofs.lemmas.Nat.{div-add-mod', mod_below, div_below}
 use Rattle.std.proofs.lemmas.List.FromFn.{fill_by_all}
-use Rattle.cocycle_core.specs.ShadowCocycle.{ShadowCochain, IsShadowCocycle, value}
+use Rattle.cocycle_core.specs.ShadowCocycle.{ShadowCochain, IsShadowCocycle, shadow_value}
 
 pub parts_below : (q place : ℕ) → 0 < q → place < q * q * q → (place / q / q < q) × (place / q % q < q) × (place % q < q)
 parts_below q place some lt = (div_below (place / q) q q some (div_below place q (q * q) some lt), mod_below (place / q) q some, mod_below place q some)
 
 pub value_there : (t : ShadowCochain) (q place : ℕ) → q ≡ t.quandle.order
-    → value t (place / q / q) (place / q % q) (place % q) ≡ get_or t.entries place 0
+    → shadow_value t (place / q / q) (place / q % q) (place % q) ≡ get_or t.entries place 0
 value_there t q place same =
     ap (λ (n : ℕ). get_or t.entries ((place / q / q * n + place / q % q) * n + place % q) 0) (sym same)
     ∙ (ap (λ (n : ℕ). get_or t.entries (n * q + place % q) 0) (div-add-mod' (place / q) q) ∙ ap (λ (n : ℕ). get_or t.entries n 0) (div-add-mod' place q))

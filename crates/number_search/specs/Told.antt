@@ -11,16 +11,16 @@ use Rattle.evidence_core.specs.declared.blocks.Block.{Block}
 use Rattle.evidence_core.specs.declared.evidence.Counted.{Counted}
 use Rattle.evidence_core.specs.declared.evidence.Evidence.{Evidence}
 use Rattle.evidence_core.specs.declared.evidence.Evidence.TheVariants.{Numbers, Linking}
-use Rattle.number_check.specs.Holds.{numbers_by}
+use Rattle.number_check.specs.EvidenceHolds.{numbers_by}
 use Rattle.evidence_core.specs.Links.{linked_of}
-use Rattle.evidence_core.specs.Links.{are_same}
+use Rattle.evidence_core.specs.Links.{are_same_links}
 use Rattle.number_search.specs.declared.seed_pair.SeedPair.{SeedPair}
 
 -- ---- linking numbers
 
 -- the numbers of components and the linking numbers of both links, where these differ
 abbrev pub told_by_linking : Diagram → Diagram → Option Evidence
-told_by_linking d e = if are_same (linked_of d) (linked_of e) then None else Some (Linking (linked_of d) (linked_of e))
+told_by_linking d e = if are_same_links (linked_of d) (linked_of e) then None else Some (Linking (linked_of d) (linked_of e))
 
 -- ---- the numbers of colourings
 
@@ -46,12 +46,12 @@ abbrev pub first_telling : Diagram → Diagram → SeedPair → List Block → O
 first_telling d e s blocks = find (tells d e s) blocks
 
 -- numbers, with the seeds of the plan by which they were counted
-abbrev pub counted : List Step → List ℕ → Counted
-counted plan numbers = record { seeds = record { items = seed_columns plan }; numbers = numbers }
+abbrev pub counted_by_plan : List Step → List ℕ → Counted
+counted_by_plan plan numbers = record { seeds = record { items = seed_columns plan }; numbers = numbers }
 
 -- the numbers of both diagrams by a block
 abbrev pub evidence_by : Diagram → Diagram → SeedPair → Block → Evidence
-evidence_by d e s b = Numbers b (counted s.first (numbers_by b d)) (counted s.second (numbers_by b e))
+evidence_by d e s b = Numbers b (counted_by_plan s.first (numbers_by b d)) (counted_by_plan s.second (numbers_by b e))
 
 -- the same by the first block that tells them apart
 abbrev pub told_by_blocks : Diagram → Diagram → SeedPair → List Block → Option Evidence

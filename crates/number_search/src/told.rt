@@ -1,9 +1,9 @@
 //! Evidence by numbers, found.
 ghost use Rattle.std.specs.Prelude.{◌≡◌, ◌∷◌, [], count_by, IfOk, IfSome};
 ghost use Rattle.grid_moves.specs.Joining.{Equivalent};
-ghost use Rattle.evidence_core.specs.declared.cause.Ruling.TheVariants.{Accepted};
-ghost use Rattle.number_check.specs.Ruling.{RulesOn};
-ghost use Rattle.number_search.specs.Told.{ArePlansOf, fits_both, counted, evidence_by, told_by_linking, told_by_blocks, told_apart};
+ghost use Rattle.evidence_core.specs.declared.cause.NumberRuling.TheVariants.{Accepted};
+ghost use Rattle.number_check.specs.Ruling.{RulesOnNumbers};
+ghost use Rattle.number_search.specs.Told.{ArePlansOf, fits_both, counted_by_plan, evidence_by, told_by_linking, told_by_blocks, told_apart};
 
 use crate::copied::copied;
 use crate::seed_pair::SeedPair;
@@ -26,7 +26,7 @@ pub fn tell_apart(
 ) -> Result<Option<Evidence>, OutOfMemory>
     requires plans { ArePlansOf first.now second.now seeds.now }
     ensures evidence { IfOk result (λ o. o ≡ told_apart first.now second.now seeds.now blocks.now) }
-    ensures accepted { IfOk result (λ o. IfSome o (λ e. RulesOn first.now second.now e Accepted)) }
+    ensures accepted { IfOk result (λ o. IfSome o (λ e. RulesOnNumbers first.now second.now e Accepted)) }
     ensures apart { IfOk result (λ o. IfSome o (λ e. Equivalent first.now second.now → ⊥)) }
 {
     let linking = tell_apart_by_linking(alloc, first, second)?;
@@ -43,7 +43,7 @@ pub fn tell_apart_by_linking(
     second: &Grid,
 ) -> Result<Option<Evidence>, OutOfMemory>
     ensures evidence { IfOk result (λ o. o ≡ told_by_linking first.now second.now) }
-    ensures accepted { IfOk result (λ o. IfSome o (λ e. RulesOn first.now second.now e Accepted)) }
+    ensures accepted { IfOk result (λ o. IfSome o (λ e. RulesOnNumbers first.now second.now e Accepted)) }
     ensures apart { IfOk result (λ o. IfSome o (λ e. Equivalent first.now second.now → ⊥)) }
 {
     let one = linked_of(alloc, first)?;
@@ -68,7 +68,7 @@ pub fn tell_apart_by_blocks(
 ) -> Result<Option<Evidence>, OutOfMemory>
     requires plans { ArePlansOf first.now second.now seeds.now }
     ensures evidence { IfOk result (λ o. o ≡ told_by_blocks first.now second.now seeds.now blocks.now) }
-    ensures accepted { IfOk result (λ o. IfSome o (λ e. RulesOn first.now second.now e Accepted)) }
+    ensures accepted { IfOk result (λ o. IfSome o (λ e. RulesOnNumbers first.now second.now e Accepted)) }
     ensures apart { IfOk result (λ o. IfSome o (λ e. Equivalent first.now second.now → ⊥)) }
 {
     for block in blocks {
@@ -90,7 +90,7 @@ fn told_by_block(
 ) -> Result<Option<Evidence>, OutOfMemory>
     requires plans { ArePlansOf first.now second.now seeds.now }
     ensures evidence { IfOk result (λ o. o ≡ told_by_blocks first.now second.now seeds.now (block.now ∷ [])) }
-    ensures accepted { IfOk result (λ o. IfSome o (λ e. RulesOn first.now second.now e Accepted)) }
+    ensures accepted { IfOk result (λ o. IfSome o (λ e. RulesOnNumbers first.now second.now e Accepted)) }
     ensures apart { IfOk result (λ o. IfSome o (λ e. Equivalent first.now second.now → ⊥)) }
 {
     let _first = first.size();
@@ -133,7 +133,7 @@ fn fits_both(seeds: &SeedPair, block: &Block) -> bool
 
 /// Numbers with the seeds by which they were counted.
 fn counted(seeding: &Seeding, numbers: Vec<u32>) -> Counted
-    ensures { result ≡ counted seeding.now numbers.items }
+    ensures { result ≡ counted_by_plan seeding.now numbers.items }
 {
     Counted {
         seeds: seeding.seeds(),

@@ -3,7 +3,7 @@ use Rattle.std.proofs.Common.{◌≡◌, true, false, Result, Ok, Err, refl}
 use Rattle.text_lines.specs.Lines.{Text}
 use Rattle.text_items.specs.declared.fault.TextFault.{TextFault}
 use Rattle.text_items.specs.Reading.{◌>>=◌, text_end}
-use Rattle.verdict_core.specs.Diagrams.{columns}
+use Rattle.verdict_core.specs.Diagrams.{column_count}
 use Rattle.verdict_core.specs.declared.problem.ProblemText.{ProblemText}
 use Rattle.verdict_core.specs.declared.verdict.Verdict.{Verdict}
 use Rattle.verdict_text.specs.Verdicts.{verdict_item}
@@ -24,7 +24,7 @@ third text p is starts = rw (is, starts) refl
 pub earlier : (text : Text) (p : ProblemText × Text) → problem_item text ≡ Ok p → starts_third p.1.lines ≡ false
     → said_in text ≡ verdict_behind p.0 p.1
 unfolding check_in verdict_behind
-earlier text p is starts = rw (is, starts) (by (verdict_item (columns p.0.first) (columns p.0.second) p.1))
+earlier text p is starts = rw (is, starts) (by (verdict_item (column_count p.0.first) (column_count p.0.second) p.1))
   where
     by : (v : Result (Verdict × Text) TextFault)
         → with_verdict (v >>= λ verdict. text_end verdict.1 >>= λ end. Ok (p.0, verdict.0))

@@ -48,15 +48,15 @@ abbrev pub alone : NamedQuandle → Block
 alone quandle = record { listed = quandle; cocycle = None }
 
 -- the blocks, or the built-in quandles, each alone, where there are none
-abbrev pub or_built_in : List Block → List Block
-or_built_in [] = map alone built_in
-or_built_in (block ∷ blocks) = block ∷ blocks
+abbrev pub or_built_in_blocks : List Block → List Block
+or_built_in_blocks [] = map alone built_in
+or_built_in_blocks (block ∷ blocks) = block ∷ blocks
 
 -- the same of at most MAX_QUANDLES, of orders of at most MAX_LARGE_ORDER
 unfoldable pub block_list : Text → Result (List Block × Text) TextFault
 block_list text = do
   listed ← blocks MAX_LARGE_ORDER MAX_QUANDLES text
-  Ok (or_built_in listed.0, listed.1)
+  Ok (or_built_in_blocks listed.0, listed.1)
 
 -- ---- a text of blocks alone
 

@@ -8,7 +8,7 @@ use Rattle.text_lines.specs.Lines.{NumberedLine, Text}
 use Rattle.text_items.specs.declared.fault.TextFault.{TextFault}
 use Rattle.text_items.specs.declared.fault.TextFault.TheVariants.{Malformed, Limit}
 use Rattle.text_items.specs.Reading.{◌>>=◌, next_line, next_token, line_end, word, last_count}
-use Rattle.text_items.specs.Numbers.{numbers, numbers_behind, is_long}
+use Rattle.text_items.specs.NumberLines.{line_numbers, numbers_behind, is_long}
 use Rattle.text_items.specs.Kept.{low}
 use Rattle.text_items.specs.Braids.{letters, is_long_letter}
 use Rattle.text_items.specs.Quandles.{quandle_at}
@@ -30,18 +30,18 @@ seeds_at line = do
   Ok (record { items = map low values })
 
 -- `numbers`, and so many numbers: first their form, then their digits, then how many they are
-unfoldable pub numbers_at : ℕ → NumberedLine → Result (List ℕ) TextFault
-numbers_at count line = do
+unfoldable pub numbers_line_at : ℕ → NumberedLine → Result (List ℕ) TextFault
+numbers_line_at count line = do
   rest ← word (codes "numbers") line
-  values ← numbers rest
+  values ← line_numbers rest
   if list_any is_long values then Err (Limit rest.number) else if length values == count then Ok values else Err (Malformed rest.number)
 
-unfoldable pub counted_item : ℕ → Text → Result (Counted × Text) TextFault
-counted_item count text = do
+unfoldable pub seeded_numbers_item : ℕ → Text → Result (Counted × Text) TextFault
+seeded_numbers_item count text = do
   one ← next_line text
   seeds ← seeds_at one.0
   two ← next_line one.1
-  list ← numbers_at count two.0
+  list ← numbers_line_at count two.0
   Ok (record { seeds = seeds; numbers = list }, two.1)
 
 -- one number without a cocycle, else one for each weight
@@ -55,8 +55,8 @@ unfoldable pub numbers_evidence : NumberedLine → Text → Result (Evidence × 
 numbers_evidence line text = do
   quandle ← quandle_at MAX_LARGE_ORDER line text
   cocycle ← cocycle_or_none quandle.0.table quandle.1
-  first ← counted_item (count_of cocycle.0) cocycle.1
-  second ← counted_item (count_of cocycle.0) first.1
+  first ← seeded_numbers_item (count_of cocycle.0) cocycle.1
+  second ← seeded_numbers_item (count_of cocycle.0) first.1
   Ok (Numbers (record { listed = quandle.0; cocycle = cocycle.0 }) first.0 second.0, second.1)
 
 -- ---- linking numbers

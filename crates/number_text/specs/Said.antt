@@ -2,7 +2,7 @@
 use Rattle.std.specs.Prelude.{ℕ, ◌&&◌, Bool, false, List, [], ◌∷◌, codes, Result, Ok, Err, if◌then◌else◌}
 use Rattle.std.specs.Str.{bytes_eq}
 use Rattle.text_lines.specs.Lines.{NumberedLine, Text, text_of}
-use Rattle.verdict_core.specs.Diagrams.{columns}
+use Rattle.verdict_core.specs.Diagrams.{column_count}
 use Rattle.verdict_core.specs.declared.problem.ProblemText.{ProblemText}
 use Rattle.verdict_core.specs.declared.verdict.Verdict.{Verdict}
 use Rattle.text_items.specs.declared.fault.TextFault.{TextFault}
@@ -55,7 +55,7 @@ third_behind problem text = do
 -- behind a problem stands a verdict of an earlier version, and nothing more
 unfoldable pub verdict_behind : ProblemText → Text → Result (ProblemText × Said) TextFault
 verdict_behind problem text = do
-  verdict ← verdict_item (columns problem.first) (columns problem.second) text
+  verdict ← verdict_item (column_count problem.first) (column_count problem.second) text
   end ← text_end verdict.1
   Ok (problem, said.Verdict verdict.0)
 

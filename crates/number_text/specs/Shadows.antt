@@ -4,14 +4,14 @@ use Rattle.std.specs.Str.{bytes_eq}
 use Rattle.quandle_core.specs.declared.quandle.TheConstants.{MAX_ORDER}
 use Rattle.quandle_core.specs.Quandle.{Table}
 use Rattle.cocycle_core.specs.ShadowCocycle.{ShadowCochain}
-use Rattle.cocycle_core.specs.ShadowFault.{first_fault}
+use Rattle.cocycle_core.specs.ShadowFault.{first_shadow_fault}
 use Rattle.text_lines.specs.Lines.{NumberedLine, Text}
-use Rattle.text_lines.specs.Numbers.{number_of}
+use Rattle.text_lines.specs.NumberTokens.{number_of}
 use Rattle.text_items.specs.declared.fault.TextFault.{TextFault}
 use Rattle.text_items.specs.declared.fault.TextFault.TheVariants.{Malformed}
 use Rattle.text_items.specs.declared.modulus.TheConstants.{MAX_MODULUS}
 use Rattle.text_items.specs.Reading.{◌>>=◌, next_line, next_token, line_end, word, or_malformed, at_most}
-use Rattle.text_items.specs.Numbers.{numbers_below}
+use Rattle.text_items.specs.NumberLines.{numbers_below}
 use Rattle.text_items.specs.Quandles.{table_rows}
 use Rattle.evidence_core.specs.declared.shadows.Spelling.{Spelling}
 use Rattle.evidence_core.specs.declared.shadows.Spelling.TheVariants as spelling
@@ -40,8 +40,8 @@ head_of quandle n token = if bytes_eq token (codes "mochizuki") then formula_of 
   modulus_of quandle n value)
 
 -- the first line: its form, its limits, and its content
-unfoldable pub head_at : Table → NumberedLine → Result Head TextFault
-head_at quandle line = do
+unfoldable pub shadow_head_at : Table → NumberedLine → Result Head TextFault
+shadow_head_at quandle line = do
   rest ← word (codes "shadow") line
   token ← next_token rest
   end ← line_end token.1
@@ -50,28 +50,28 @@ head_at quandle line = do
 abbrev pub spelled : Spelling → ShadowCochain → SpelledShadow
 spelled s t = record { spelling = s; cocycle = t }
 
-abbrev pub cochain : Table → ℕ → List ℕ → ShadowCochain
-cochain quandle modulus entries = record { quandle = quandle; modulus = modulus; entries = entries }
+abbrev pub shadow_cochain : Table → ℕ → List ℕ → ShadowCochain
+shadow_cochain quandle modulus entries = record { quandle = quandle; modulus = modulus; entries = entries }
 
 -- the lines of a table, q for each colour w of a region, of which line x has θ(w, x, 0) to θ(w, x, q-1);
 -- one that fails a law of shadow cocycles is malformed at its last line
-unfoldable pub cochain_item : Table → ℕ → Text → Result (SpelledShadow × Text) TextFault
-cochain_item quandle modulus text = do
+unfoldable pub shadow_cochain_item : Table → ℕ → Text → Result (SpelledShadow × Text) TextFault
+shadow_cochain_item quandle modulus text = do
   front ← table_rows quandle.order modulus (quandle.order * quandle.order - 1) text
   line ← next_line front.1
   row ← numbers_below quandle.order modulus line.0
-  if is_none (first_fault (cochain quandle modulus (front.0 ++ row)))
-      then Ok (spelled spelling.Table (cochain quandle modulus (front.0 ++ row)), line.1)
+  if is_none (first_shadow_fault (shadow_cochain quandle modulus (front.0 ++ row)))
+      then Ok (spelled spelling.Table (shadow_cochain quandle modulus (front.0 ++ row)), line.1)
       else Err (Malformed line.0.number)
 
 -- what a first line means, with the lines behind it that a table takes
 abbrev pub shadow_of : Table → Head → Text → Result (SpelledShadow × Text) TextFault
 shadow_of quandle head.Mochizuki text = Ok (spelled spelling.Mochizuki (mochizuki quandle.order), text)
-shadow_of quandle (head.Table modulus) text = cochain_item quandle modulus text
+shadow_of quandle (head.Table modulus) text = shadow_cochain_item quandle modulus text
 
 -- a shadow cocycle of the quandle
 unfoldable pub shadow_item : Table → Text → Result (SpelledShadow × Text) TextFault
 shadow_item quandle text = do
   line ← next_line text
-  said ← head_at quandle line.0
+  said ← shadow_head_at quandle line.0
   shadow_of quandle said line.1

@@ -3,7 +3,7 @@ ghost use Rattle.std.specs.Prelude.{◌≡◌};
 ghost use Rattle.std.specs.List.{list_any};
 ghost use Rattle.text_items.specs.Reading.{Gives};
 ghost use Rattle.text_items.specs.Braids.{is_long_letter, letter_of, letters};
-ghost use Rattle.number_text.specs.Evidence.{seeds_at, numbers_at, counted_item, components_at, letters_at, linked_item};
+ghost use Rattle.number_text.specs.Evidence.{seeds_at, numbers_line_at, seeded_numbers_item, components_at, letters_at, linked_item};
 
 use evidence_core::{Counted, Linked};
 use grid_core::Rows;
@@ -15,9 +15,9 @@ use text_items::{TextFault, any_long, number_list};
 use text_lines::{Line, Lines};
 
 /// The word `numbers`, and so many numbers.
-#[tactic(auto, unfolding(crate::specs::Evidence::numbers_at))]
+#[tactic(auto, unfolding(crate::specs::Evidence::numbers_line_at))]
 pub fn numbers_at(alloc: Global, count: u8, line: &mut Line) -> Result<Vec<u32>, TextFault>
-    ensures { Gives (λ v. v.items) result (numbers_at count line.old) }
+    ensures { Gives (λ v. v.items) result (numbers_line_at count line.old) }
 {
     word(line, b"numbers")?;
     let at = line.number();
@@ -40,13 +40,13 @@ pub fn seeds_at(line: &mut Line) -> Result<Rows, TextFault>
 }
 
 /// The seeds of a diagram, and so many numbers of its colourings.
-#[tactic(auto, unfolding(crate::specs::Evidence::counted_item))]
+#[tactic(auto, unfolding(crate::specs::Evidence::seeded_numbers_item))]
 pub(crate) fn counted_item(
     alloc: Global,
     count: u8,
     lines: &mut Lines,
 ) -> Result<Counted, TextFault>
-    ensures { Gives (λ c. (c, lines.new)) result (counted_item count lines.old) }
+    ensures { Gives (λ c. (c, lines.new)) result (seeded_numbers_item count lines.old) }
 {
     let mut first = next_line(lines)?;
     let seeds = seeds_at(&mut first)?;

@@ -2,7 +2,7 @@
 ghost use Rattle.std.specs.Prelude.{◌≡◌, ◌≤◌, true, IfOk};
 ghost use Rattle.quandle_core.specs.declared.quandle.TheConstants.{MAX_ORDER};
 ghost use Rattle.text_items.specs.Reading.{Gives, at_most};
-ghost use Rattle.number_text.specs.Shadows.{spelled, head_at, head_of, formula_of, modulus_of, cochain_item, shadow_of, shadow_item};
+ghost use Rattle.number_text.specs.Shadows.{spelled, shadow_head_at, head_of, formula_of, modulus_of, shadow_cochain_item, shadow_of, shadow_item};
 ghost use Rattle.cocycle_core.specs.Formula.{has_formula, mochizuki};
 
 use cocycle_core::{ShadowCocycle, has_formula, mochizuki};
@@ -42,9 +42,9 @@ pub fn shadow_item(
 }
 
 /// The first line.
-#[tactic(auto, unfolding(crate::specs::Shadows::head_at))]
+#[tactic(auto, unfolding(crate::specs::Shadows::shadow_head_at))]
 fn head_at(quandle: &Operations, line: &mut Line) -> Result<Head, TextFault>
-    ensures head { Gives (λ h. h) result (head_at quandle.now line.old) }
+    ensures head { Gives (λ h. h) result (shadow_head_at quandle.now line.old) }
     ensures few { IfOk result (λ h. quandle.now.order ≤ MAX_ORDER) }
     ensures formula { IfOk result (λ h. h ≡ Head.Mochizuki → has_formula quandle.now ≡ true) }
 {
@@ -165,14 +165,14 @@ fn by_formula(alloc: Global, quandle: &Quandle) -> Result<SpelledShadow, AllocFa
 }
 
 /// The lines of a table of numbers below the modulus, which has the laws of a shadow cocycle, or is malformed at its last line.
-#[tactic(auto, unfolding(crate::specs::Shadows::cochain_item))]
+#[tactic(auto, unfolding(crate::specs::Shadows::shadow_cochain_item))]
 fn cochain_item(
     alloc: Global,
     quandle: &Quandle,
     modulus: u8,
     lines: &mut Lines,
 ) -> Result<SpelledShadow, TextFault>
-    ensures { Gives (λ s. (s, lines.new)) result (cochain_item quandle.now modulus lines.old) }
+    ensures { Gives (λ s. (s, lines.new)) result (shadow_cochain_item quandle.now modulus lines.old) }
 {
     let order = quandle.order();
     let front = order as usize * order as usize - 1;

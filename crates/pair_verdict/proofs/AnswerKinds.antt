@@ -14,7 +14,7 @@ use Rattle.mono_simplify.specs.declared.simplified.Simplified.{Simplified}
 use Rattle.search_book.specs.declared.event.End.{End}
 use Rattle.search_book.specs.declared.event.End.TheVariants.{Met, Spent, Exhausted}
 use Rattle.search_book.specs.State.{State}
-use Rattle.verdict_core.specs.Evidence.{IsTidyVerdict, Claims, Holds, TellsApart, HasEvidence}
+use Rattle.verdict_core.specs.Evidence.{IsTidyVerdict, Claims, VerdictHolds, TellsApart, HasEvidence}
 use Rattle.cert_check.proofs.ToldApart.{told_apart}
 use Rattle.quandle_core.specs.Names.{NamedQuandle}
 use Rattle.verdict_core.specs.declared.verdict.Verdict.{Verdict}
@@ -106,13 +106,13 @@ tidy_where_decided p qs workers v kept decides = elim decides [
 
 -- ---- what a decision is worth
 
-told_holds_by : (p : Problem) (qs : List NamedQuandle) (v : Verdict) (kept : Option Finding) → IsToldApart p qs v kept → Holds p.first p.second v
+told_holds_by : (p : Problem) (qs : List NamedQuandle) (v : Verdict) (kept : Option Finding) → IsToldApart p qs v kept → VerdictHolds p.first p.second v
 told_holds_by p qs v kept told =
     holds_by p.first p.second told.quandle v (find_passes
     (λ (q : NamedQuandle). separates p.first p.second q.table) qs told.quandle told.first_that_does) told.lists
 
 pub holds_where_decided : (p : Problem) (qs : List NamedQuandle) (workers : ℕ) (v : Verdict) (kept : Option Finding) → Decides p qs workers v kept
-    → HasEvidence v → Holds p.first p.second v
+    → HasEvidence v → VerdictHolds p.first p.second v
 holds_where_decided p qs workers v kept decides has = elim decides [
   | inl told ↦ told_holds_by p qs v kept told
   | inr searched ↦ holds_within p v searched.true_within has
@@ -125,9 +125,9 @@ find_among P p xs x all is =
     let within = slice_get_within xs (position_or_len p xs) x (sym (find_at p xs) ∙ is) in
     subst P here (all (position_or_len p xs) x within)
 
-claims_by : (d e : Diagram) (q : NamedQuandle) (v w : Verdict) → IsQuandle q.table → IsDifferentBy d e q v → Holds d e v → v ≡ w → Claims d e w
+claims_by : (d e : Diagram) (q : NamedQuandle) (v w : Verdict) → IsQuandle q.table → IsDifferentBy d e q v → VerdictHolds d e v → v ≡ w → Claims d e w
 claims_by d e q v w quandle lists holds same =
-    let told : TellsApart q.table d e (lists_of lists.one) (lists_of lists.two) = subst (Holds d e) lists.verdict holds in
+    let told : TellsApart q.table d e (lists_of lists.one) (lists_of lists.two) = subst (VerdictHolds d e) lists.verdict holds in
     subst (Claims d e) (sym lists.verdict ∙ same) (told_apart q.table d e (lists_of lists.one) (lists_of lists.two) quandle told)
 
 pub claims_where_decided : (p : Problem) (qs : List NamedQuandle) (workers : ℕ) (v : Verdict) (kept : Option Finding)

@@ -7,7 +7,7 @@ use Rattle.std.proofs.lemmas.List.{take-append-drop, take_more, drop_more}
 use Rattle.grid_core.specs.Diagram.{Diagram}
 use Rattle.colour_list.specs.Fits.{fits}
 use Rattle.colour_list.specs.Listing.{colourings}
-use Rattle.verdict_core.specs.Evidence.{Holds, IsTidyVerdict}
+use Rattle.verdict_core.specs.Evidence.{VerdictHolds, IsTidyVerdict}
 use Rattle.quandle_core.specs.Names.{NamedQuandle}
 use Rattle.verdict_core.specs.declared.verdict.Verdict.{Verdict}
 use Rattle.pair_verdict.specs.Separates.{separates, first_separating, IsDifferentBy, IsSeparation}
@@ -83,11 +83,11 @@ differ : (m n : ℕ) → not (m == n) ≡ true → m ≢ n
 differ m n is same = absurd (let wrong : not (n == n) ≡ true = subst (λ k. not (k == n) ≡ true) same is in let right : n == n ≡ true = search rules in cc)
 
 -- it tells the diagrams apart by their complete lists
-pub holds_by : (d e : Diagram) (q : NamedQuandle) (v : Verdict) → separates d e q.table ≡ true → IsDifferentBy d e q v → Holds d e v
+pub holds_by : (d e : Diagram) (q : NamedQuandle) (v : Verdict) → separates d e q.table ≡ true → IsDifferentBy d e q v → VerdictHolds d e v
 holds_by d e q v is lists =
     let parts = both (fits q.table d && fits q.table e) (not (length (colourings q.table d) == length (colourings q.table e))) is in
     let fit = both (fits q.table d) (fits q.table e) parts.0 in
-    subst (Holds d e) (sym lists.verdict) (record {
+    subst (VerdictHolds d e) (sym lists.verdict) (record {
       fits_first = fit.0;
       fits_second = fit.1;
       first = lists.of_first;
@@ -99,11 +99,11 @@ holds_by d e q v is lists =
 -- ---- what was found
 
 by_found : (d e : Diagram) (qs : List NamedQuandle) (o : Option NamedQuandle) (v : Verdict) → first_separating d e qs ≡ o → IsSeparation d e o (Some v)
-    → Holds d e v
+    → VerdictHolds d e v
 by_found d e qs (Some q) v is lists = holds_by d e q v (find_passes (λ (r : NamedQuandle). separates d e r.table) qs q is) lists
 by_found d e qs None v is lists = absurd lists
 
-pub told_holds : (d e : Diagram) (qs : List NamedQuandle) (v : Verdict) → IsSeparation d e (first_separating d e qs) (Some v) → Holds d e v
+pub told_holds : (d e : Diagram) (qs : List NamedQuandle) (v : Verdict) → IsSeparation d e (first_separating d e qs) (Some v) → VerdictHolds d e v
 told_holds d e qs v lists = by_found d e qs (first_separating d e qs) v refl lists
 
 -- it has no moves

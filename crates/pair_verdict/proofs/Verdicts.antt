@@ -5,7 +5,7 @@ use Rattle.grid_core.specs.Diagram.{size}
 use Rattle.grid_moves.proofs.Within.{within_joins}
 use Rattle.next_moves.specs.Reach.{IsReached, HasMembers, HasMoreMembers}
 use Rattle.mono_simplify.specs.declared.simplified.Simplified.{Simplified}
-use Rattle.verdict_core.specs.Evidence.{Claims, Holds, HasEvidence}
+use Rattle.verdict_core.specs.Evidence.{Claims, VerdictHolds, HasEvidence}
 use Rattle.quandle_core.specs.Names.{NamedQuandle}
 use Rattle.verdict_core.specs.declared.verdict.Verdict.{Verdict}
 use Rattle.verdict_core.specs.declared.verdict.Verdict.TheVariants.{Equal, Different, UnknownBudget, UnknownExhausted}
@@ -57,7 +57,7 @@ claims_within p (Different listed one two) is = absurd is
 claims_within p (UnknownBudget budget) is = search rules
 claims_within p (UnknownExhausted cap k) is = search rules
 
-pub holds_within : (p : Problem) (v : Verdict) → IsTrueWithin p v → HasEvidence v → Holds p.first p.second v
+pub holds_within : (p : Problem) (v : Verdict) → IsTrueWithin p v → HasEvidence v → VerdictHolds p.first p.second v
 holds_within p (Equal moves) is has = within_joins p.cap moves p.first p.second is
 holds_within p (Different listed one two) is has = absurd is
 holds_within p (UnknownBudget budget) is has = absurd has

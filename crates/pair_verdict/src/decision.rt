@@ -1,6 +1,6 @@
 //! The decision on a problem.
 ghost use Rattle.std.specs.Prelude.{◌≡◌, ◌≤◌, ◌≢◌, Some, None, IfOk};
-ghost use Rattle.verdict_core.specs.Evidence.{Claims, Holds, HasEvidence, IsTidyVerdict};
+ghost use Rattle.verdict_core.specs.Evidence.{Claims, VerdictHolds, HasEvidence, IsTidyVerdict};
 ghost use Rattle.search_book.specs.Bounded.{IsBounded};
 ghost use Rattle.search_book.specs.Ended.{Shows};
 ghost use Rattle.search_pool.specs.declared.many.TheConstants.{MAX_WORKERS};
@@ -74,7 +74,7 @@ pub fn decide<R: Threads + Wait + Sync, G: Gate + Sync>(
     requires workers { workers ≤ MAX_WORKERS }
     ensures decides { IfOk result (λ d. Decides problem quandles.now workers d.verdict d.kept) }
     ensures claims { IfOk result (λ d. Claims problem.first problem.second d.verdict) }
-    ensures holds { IfOk result (λ d. HasEvidence d.verdict → Holds problem.first problem.second d.verdict) }
+    ensures holds { IfOk result (λ d. HasEvidence d.verdict → VerdictHolds problem.first problem.second d.verdict) }
     ensures tidy { IfOk result (λ d. IsTidyVerdict d.verdict) }
 {
     if workers == 1 {
@@ -100,7 +100,7 @@ pub fn decide_alone(
     requires { IsBounded problem }
     ensures decides { IfOk result (λ d. Decides problem quandles.now 1 d.verdict d.kept) }
     ensures claims { IfOk result (λ d. Claims problem.first problem.second d.verdict) }
-    ensures holds { IfOk result (λ d. HasEvidence d.verdict → Holds problem.first problem.second d.verdict) }
+    ensures holds { IfOk result (λ d. HasEvidence d.verdict → VerdictHolds problem.first problem.second d.verdict) }
     ensures tidy { IfOk result (λ d. IsTidyVerdict d.verdict) }
 {
     if let Some(verdict) = told_apart(alloc, &problem.first, &problem.second, quandles)? {

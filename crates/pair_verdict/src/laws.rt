@@ -7,7 +7,7 @@ ghost use Rattle.grid_moves.specs.Joining.{JoinsWithin, WithinCap};
 ghost use Rattle.quandle_core.specs.Quandle.{IsQuandle};
 ghost use Rattle.quandle_core.specs.Names.{NamedQuandle};
 ghost use Rattle.verdict_core.specs.declared.verdict.Verdict.{Verdict};
-ghost use Rattle.verdict_core.specs.Evidence.{Claims, Holds, HasEvidence, IsTidyVerdict};
+ghost use Rattle.verdict_core.specs.Evidence.{Claims, VerdictHolds, HasEvidence, IsTidyVerdict};
 ghost use Rattle.next_moves.specs.Reach.{IsReached, HasMembers, HasMoreMembers};
 ghost use Rattle.mono_simplify.specs.declared.simplified.Simplified.{Simplified};
 ghost use Rattle.search_book.specs.declared.problem.Problem.{Problem};
@@ -107,7 +107,7 @@ pub fn a_decision_is_true()
     ensures holds { (p : Problem) (quandles : List NamedQuandle) (workers : ℕ) (v : Verdict) (kept : Option Finding)
         → Decides p quandles workers v kept
         → HasEvidence v
-        → Holds p.first p.second v }
+        → VerdictHolds p.first p.second v }
     ensures tidy { (p : Problem) (quandles : List NamedQuandle) (workers : ℕ) (v : Verdict) (kept : Option Finding)
         → Decides p quandles workers v kept
         → IsTidyVerdict v }

@@ -8,7 +8,7 @@ use Rattle.colour_list.specs.Listing.{colourings}
 use Rattle.colour_laws.proofs.Listings.{listing}
 use Rattle.braid_core.specs.Braid.{Word, IsBraid}
 use Rattle.braid_core.specs.FixedPoints.{fixed_points, IsFixedPoint}
-use Rattle.braid_closure.specs.Closure.{closure, at_feet}
+use Rattle.braid_closure.specs.Closure.{closure, at_closure_feet}
 use Rattle.braid_laws.proofs.Feet.{feet_fixed}
 use Rattle.braid_laws.proofs.Colourings.{feet_onto, feet_one}
 use Rattle.braid_moves.specs.declared.step.BraidMove.{BraidMove}
@@ -21,9 +21,9 @@ use Rattle.plain_jobs.specs.EquallyMany.{HaveEquallyMany}
 -- a closure has as many colourings as the braid's action has fixed points: they are read at the feet
 as_many_at_the_feet : (t : Table) → IsQuandle t → (b : Word) → IsBraid b → length (colourings t (closure b)) ≡ length (fixed_points t b)
 as_many_at_the_feet t q b braid =
-    let feet : IsBijection (IsColouring t (closure b)) (IsFixedPoint t b) (at_feet b) =
+    let feet : IsBijection (IsColouring t (closure b)) (IsFixedPoint t b) (at_closure_feet b) =
     record { into = feet_fixed t q b braid; onto = feet_onto t q b braid; one = feet_one t q b braid } in
-    equal_lengths (IsColouring t (closure b)) (IsFixedPoint t b) (at_feet b) feet (colourings t (closure b)) (fixed_points t b)
+    equal_lengths (IsColouring t (closure b)) (IsFixedPoint t b) (at_closure_feet b) feet (colourings t (closure b)) (fixed_points t b)
     (listing t (closure b)) (fixed_listing t b)
 
 pub accepted_equally : (v w : Word) → IsBraid v → IsBraid w → (steps : List BraidMove) → ruling v w steps ≡ Accepted → HaveEquallyMany v w

@@ -9,7 +9,7 @@ use Rattle.text_items.specs.Reading.{◌>>=◌, text_end}
 use Rattle.verdict_text.specs.Moves.{moves_item}
 use Rattle.verdict_text.specs.Verdicts.{verdict_item}
 use Rattle.knot_text.specs.Colours.{coloured}
-use Rattle.verdict_core.specs.Diagrams.{grid_of, columns}
+use Rattle.verdict_core.specs.Diagrams.{grid_of, column_count}
 use Rattle.verdict_text.specs.Diagrams.{diagram_item}
 use Rattle.verdict_text.specs.Problems.{problem_item, check_in, check_of}
 use Rattle.knot_text.specs.Shapes.{replay_in, replay_of}
@@ -25,10 +25,11 @@ unfolding check_in
 check_grids bytes p v is =
     let text = text_of bytes in
     let a = bind_ok (problem_item text)
-    (λ problem. verdict_item (columns problem.0.first) (columns problem.0.second) problem.1
+    (λ problem. verdict_item (column_count problem.0.first) (column_count problem.0.second) problem.1
     >>= λ verdict. text_end verdict.1 >>= λ end. Ok (problem.0, verdict.0)) (p, v) is in
     let q = a.0.0 in
-    let b = bind_ok (verdict_item (columns q.first) (columns q.second) a.0.1) (λ verdict. text_end verdict.1 >>= λ end. Ok (q, verdict.0)) (p, v) a.2 in
+    let b =
+    bind_ok (verdict_item (column_count q.first) (column_count q.second) a.0.1) (λ verdict. text_end verdict.1 >>= λ end. Ok (q, verdict.0)) (p, v) a.2 in
     let c = bind_ok (text_end b.0.1) (λ end. Ok (q, b.0.0)) (p, v) b.2 in
     let same : q ≡ p = ap (λ (y : ProblemText × Verdict). y.0) (ok_is (q, b.0.0) (p, v) c.2) in
     subst (λ (y : ProblemText). IsGrid (grid_of y.first) × IsGrid (grid_of y.second)) {x = q} same (problem_grids text q a.0.1 a.1)
@@ -59,16 +60,16 @@ replay_grid bytes r is =
     let text = text_of bytes in
     let a = bind_ok (diagram_item text)
     (λ diagram. moves_item diagram.1
-    >>= λ moves. coloured (columns diagram.0) moves.1
+    >>= λ moves. coloured (column_count diagram.0) moves.1
     >>= λ colours. text_end colours.1
     >>= λ end. Ok (record { diagram = diagram.0; moves = moves.0; colours = colours.0 })) r is in
     let d = a.0.0 in
     let b = bind_ok (moves_item a.0.1)
-    (λ moves. coloured (columns d) moves.1
+    (λ moves. coloured (column_count d) moves.1
     >>= λ colours. text_end colours.1
     >>= λ end. Ok (record { diagram = d; moves = moves.0; colours = colours.0 })) r a.2 in
     let moves = b.0.0 in
-    let c = bind_ok (coloured (columns d) b.0.1)
+    let c = bind_ok (coloured (column_count d) b.0.1)
     (λ colours. text_end colours.1 >>= λ end. Ok (record { diagram = d; moves = moves; colours = colours.0 })) r b.2 in
     let made : ReplayText = record { diagram = d; moves = moves; colours = c.0.0 } in
     let e = bind_ok (text_end c.0.1) (λ end. Ok made) r c.2 in

@@ -19,7 +19,7 @@ use Rattle.knot_text.proofs.FirstFault.{anywhere_seen, then_fails, end_fails}
 use Rattle.knot_text.proofs.ShapesFail.{diagram_steady}
 use Rattle.evidence_core.specs.declared.blocks.Block.{Block}
 use Rattle.number_text.specs.declared.numbered.NumbersText.{NumbersText}
-use Rattle.number_text.specs.Blocks.{block_item, surplus_block, blocks, or_built_in, block_list, blocks_in}
+use Rattle.number_text.specs.Blocks.{block_item, surplus_block, blocks, or_built_in_blocks, block_list, blocks_in}
 use Rattle.number_text.specs.Numbered.{numbers_in}
 use Rattle.plain_jobs.proofs.TableFails.{line_fails, block_fails}
 
@@ -128,16 +128,17 @@ abbrev ended : Diagram → List Block → Text → Result NumbersText TextFault
 ended d bs text = text_end text >>= λ end. Ok (numbers_text d bs)
 
 flat_built_in : {B : Type 0} (s : Result (List Block × Text) TextFault) (k : List Block → Text → Result B TextFault)
-    → ((s >>= λ listed. given (or_built_in listed.0) listed.1) >>= λ bs. k bs.0 bs.1) ≡ (s >>= λ listed. k (or_built_in listed.0) listed.1)
+    → ((s >>= λ listed. given (or_built_in_blocks listed.0) listed.1) >>= λ bs. k bs.0 bs.1) ≡ (s >>= λ listed. k (or_built_in_blocks listed.0) listed.1)
 flat_built_in (Ok listed) k = refl
 flat_built_in (Err e) k = refl
 
 behind_diagram_fails : (d : Diagram) → FailsFirst (λ text. block_list text >>= λ listed. ended d listed.0 listed.1)
 unfolding block_list
 behind_diagram_fails d =
-    same_fails (listed_then MAX_LARGE_ORDER MAX_QUANDLES (λ bs. ended d (or_built_in bs))) (λ text. block_list text >>= λ listed. ended d listed.0 listed.1)
+    same_fails (listed_then MAX_LARGE_ORDER MAX_QUANDLES (λ bs. ended d (or_built_in_blocks bs)))
+    (λ text. block_list text >>= λ listed. ended d listed.0 listed.1)
     (λ text. flat_built_in (blocks MAX_LARGE_ORDER MAX_QUANDLES text) (ended d))
-    (list_fails MAX_LARGE_ORDER MAX_QUANDLES (λ bs. ended d (or_built_in bs)) (λ bs. end_fails (numbers_text d (or_built_in bs))))
+    (list_fails MAX_LARGE_ORDER MAX_QUANDLES (λ bs. ended d (or_built_in_blocks bs)) (λ bs. end_fails (numbers_text d (or_built_in_blocks bs))))
 
 pub numbers_fail : FailsFirst numbers_in
 unfolding numbers_in

@@ -31,14 +31,14 @@ use Rattle.cert_check.proofs.Rulings.{ruled_once, some_ruling}
 use Rattle.number_text.specs.declared.said.Said.{Said}
 use Rattle.number_text.specs.declared.said.Said.TheVariants as said
 use Rattle.number_text.specs.Said.{said_of}
-use Rattle.evidence_core.specs.declared.cause.Ruling.{Ruling as NumberRuling}
-use Rattle.evidence_core.specs.declared.cause.Ruling.TheVariants as numbers
+use Rattle.evidence_core.specs.declared.cause.NumberRuling.{NumberRuling}
+use Rattle.evidence_core.specs.declared.cause.NumberRuling.TheVariants as numbers
 use Rattle.verdict_laws.proofs.OneRuling.{one_ruling}
 use Rattle.verdict_laws.proofs.SomeRuling.{some_ruling as some_number_ruling}
 use Rattle.verdict_laws.proofs.OneTableRuling.{one_table_ruling}
 use Rattle.verdict_laws.proofs.SomeTableRuling.{some_table_ruling}
 use Rattle.table_check.specs.declared.tables.KnotTable.{KnotTable}
-use Rattle.table_check.specs.Tables.{starts_table, table_of}
+use Rattle.table_check.specs.Tables.{starts_table, knot_table_of}
 use Rattle.table_check.specs.declared.cause.TableRuling.{TableRuling}
 use Rattle.table_check.specs.declared.cause.TableRuling.TheVariants as tables
 use Rattle.table_check.specs.Lines.{table_ruling_line}
@@ -53,11 +53,11 @@ use Rattle.knot_ports.specs.Status.{IsOfDefinedAnswer}
 use Rattle.reply_text.specs.declared.reply.PlainReply.{PlainReply}
 use Rattle.knot_words.specs.declared.job.PlainJob.{PlainJob}
 use Rattle.knot_words.specs.declared.job.PlainJob.TheVariants.{Check, Replay, Colour, Close, Code, Braid, Linking, Braidcheck, Weights, Numbers, Grid}
-use Rattle.reply_text.specs.Lines.{ruling_line, number_ruling_line, step_tokens}
+use Rattle.reply_text.specs.Lines.{ruling_line, number_ruling_line, illegal_step_tokens}
 use Rattle.reply_text.specs.Reply.{plain_reply, done, rejected}
 use Rattle.check_job.specs.Input.{Certificate, as_pair, as_table, certificate_in, certificate_of}
 use Rattle.check_job.specs.Answer.{ruling_status, number_ruling_status, AnswersSaid, AnswersCheck}
-use Rattle.plain_jobs.specs.Jobs.Replay.{coloured_text, Replays, ReplaysColoured, Stops, AnswersMoves}
+use Rattle.plain_jobs.specs.Jobs.Replay.{coloured_text, ReplaysMoves, ReplaysColoured, Stops, AnswersMoves}
 use Rattle.plain_jobs.specs.Jobs.Colour.{colour_text}
 use Rattle.plain_jobs.specs.Jobs.Close.{close_text}
 use Rattle.plain_jobs.specs.Jobs.Code.{code_text}
@@ -158,9 +158,10 @@ certificate_once (inr table) r r' one two =
 stop_once : (d : Diagram) (moves : List Move) (r r' : PlainReply) → Stops d moves r → Stops d moves r' → r ≡ r'
 stop_once d moves r r' a b =
     let same = stops_once moves d a.place b.place a.fault b.fault a.stops b.stops in
-    a.is ∙ ap₂ (λ p f. rejected (step_tokens p f)) same.0 same.1 ∙ sym b.is
+    a.is ∙ ap₂ (λ p f. rejected (illegal_step_tokens p f)) same.0 same.1 ∙ sym b.is
 
-replay_once : (d : Diagram) (moves : List Move) (r r' : PlainReply) → Replays d moves r ⊎ Stops d moves r → Replays d moves r' ⊎ Stops d moves r' → r ≡ r'
+replay_once : (d : Diagram) (moves : List Move) (r r' : PlainReply) → ReplaysMoves d moves r ⊎ Stops d moves r → ReplaysMoves d moves r' ⊎ Stops d moves r'
+    → r ≡ r'
 replay_once d moves r r' one two = elim one [
   | inl a ↦ elim two [
     | inl b ↦ a.is ∙ ap (λ e. done (grid_text e)) (joins_once moves d a.last b.last a.joins b.joins) ∙ sym b.is
@@ -225,7 +226,7 @@ some_said p (said.Evidence e) first second =
     let r = some_number_ruling (grid_of p.first) (grid_of p.second) e first second in
     (plain_reply (number_ruling_status r.0) (number_ruling_line r.0), record { ruling = r.0; rules = r.1; is = refl })
 
-some_table : (bytes : List ℕ) (table : KnotTable) → table_of bytes ≡ Ok table → SomeReply (AnswersTable table)
+some_table : (bytes : List ℕ) (table : KnotTable) → knot_table_of bytes ≡ Ok table → SomeReply (AnswersTable table)
 some_table bytes table is =
     let grids = table_grids bytes table is in
     let r = some_table_ruling table grids.0 grids.1 in
@@ -240,18 +241,18 @@ some_certificate bytes c is = by (starts_table (text_of bytes).lines) is
         subst (λ (y : Certificate). SomeReply (AnswersCheck y)) (ok_is (inl x) c is) (some_said x.0 x.1 grids.0 grids.1)
     pair (Err fault) read is = absurd cc
 
-    table : (s : Result KnotTable TextFault) → table_of bytes ≡ s → as_table s ≡ Ok c → SomeReply (AnswersCheck c)
+    table : (s : Result KnotTable TextFault) → knot_table_of bytes ≡ s → as_table s ≡ Ok c → SomeReply (AnswersCheck c)
     table (Ok x) read is = subst (λ (y : Certificate). SomeReply (AnswersCheck y)) (ok_is (inr x) c is) (some_table bytes x read)
     table (Err fault) read is = absurd cc
 
-    by : (t : Bool) → cond t (as_table (table_of bytes)) (as_pair (said_of bytes)) ≡ Ok c → SomeReply (AnswersCheck c)
-    by true is = table (table_of bytes) refl is
+    by : (t : Bool) → cond t (as_table (knot_table_of bytes)) (as_pair (said_of bytes)) ≡ Ok c → SomeReply (AnswersCheck c)
+    by true is = table (knot_table_of bytes) refl is
     by false is = pair (said_of bytes) refl is
 
 some_moves : (d : Diagram) (moves : List Move) (colours : Option (NamedQuandle × ArrayVec ℕ)) → IsGrid d → SomeReply (AnswersMoves d moves colours)
 some_moves d moves None grid = elim (joins_or_stops moves d grid) [
   | inl joined ↦ (done (grid_text joined.0), inl (record { last = joined.0; joins = joined.1; is = refl }))
-  | inr stop ↦ (rejected (step_tokens stop.0 stop.1.0), inr (record { place = stop.0; fault = stop.1.0; stops = stop.1.1; is = refl }))
+  | inr stop ↦ (rejected (illegal_step_tokens stop.0 stop.1.0), inr (record { place = stop.0; fault = stop.1.0; stops = stop.1.1; is = refl }))
 ]
 some_moves d moves (Some (q, colours)) grid = by (is_colouring q.table d colours.items) refl
   where
@@ -264,7 +265,7 @@ some_moves d moves (Some (q, colours)) grid = by (is_colouring q.table d colours
           (done (coloured_text joined.0 c.0), inr (record { colouring = some; answer = last }))
       | inr stop ↦
           let first = inr (record { place = stop.0; fault = stop.1.0; stops = stop.1.1; is = refl }) in
-          (rejected (step_tokens stop.0 stop.1.0), inr (record { colouring = some; answer = first }))
+          (rejected (illegal_step_tokens stop.0 stop.1.0), inr (record { colouring = some; answer = first }))
     ]
 
 pub some_reply : (job : PlainJob) → is_determined job ≡ true → (bytes : List ℕ) (i : (plain_task job).Input) → (plain_task job).read bytes ≡ Ok i

@@ -36,15 +36,15 @@ use Rattle.evidence_core.specs.declared.blocks.LargeWeighing.{LargeWeighing}
 use Rattle.evidence_core.specs.declared.blocks.LargeWeighing.TheVariants.{Strands, Regions}
 use Rattle.evidence_core.specs.declared.blocks.Block.{Block}
 use Rattle.number_text.specs.BlockCocycles.{cocycle_or_none}
-use Rattle.number_text.specs.Evidence.{seeds_at, numbers_at, count_of}
+use Rattle.number_text.specs.Evidence.{seeds_at, numbers_line_at, count_of}
 use Rattle.number_text.specs.Blocks.{block_quandle, block_item}
 use Rattle.table_check.specs.declared.class_items.Class.{Class}
 use Rattle.table_check.specs.declared.row_items.OpenPair.{OpenPair}
-use Rattle.table_check.specs.declared.row_items.Row.{Row}
+use Rattle.table_check.specs.declared.row_items.KnotRow.{KnotRow}
 use Rattle.table_check.specs.declared.tables.KnotTable.{KnotTable}
 use Rattle.table_check.specs.declared.tables.TheConstants.{FOURTH_VERSION}
 use Rattle.table_check.specs.Tables.{how_many, blocks_item, numbers_item, wide_item, count_item, counts_item, class_item, classes_item}
-use Rattle.table_check.specs.Tables.{pair_at, pair_item, left_item, class_at, row_item, rows_item, starts_table, fourth_at, table_in}
+use Rattle.table_check.specs.Tables.{pair_at, pair_item, left_item, class_at, row_item, knot_rows_item, starts_table, fourth_at, table_in}
 use Rattle.check_job.specs.Input.{as_pair, as_table, certificate_in}
 
 -- ---- a line, and what follows it
@@ -229,7 +229,7 @@ blocks_fail k fails =
 numbers_steady : (due : ℕ) → Steady Anywhere (numbers_item due)
 unfolding numbers_item
 numbers_steady due =
-    line_then (numbers_at due) (λ list text. Ok (Some list, text)) (numbers_at_at due) (λ list. pure_steady (Some list))
+    line_then (numbers_line_at due) (λ list text. Ok (Some list, text)) (numbers_at_at due) (λ list. pure_steady (Some list))
 
 wide_steady : Steady Anywhere wide_item
 unfolding wide_item
@@ -308,7 +308,7 @@ class_at_at classes line =
     at_bind (word_at (codes "class") line) (λ rest e.
     at_bind (at_same ((word_keeps (codes "class") line).of rest e) (last_count_at rest)) (λ class f. at_cond (nat_lt class classes) at_ok at_malformed))
 
-abbrev row_with : Diagram → ℕ → List Move → Row
+abbrev row_with : Diagram → ℕ → List Move → KnotRow
 row_with d class moves = record { diagram = d; class = class; moves = moves }
 
 row_steady : (classes : ℕ) → Steady Anywhere (row_item classes)
@@ -321,8 +321,8 @@ row_steady classes =
     (λ class. then_steady Anywhere moves_item (λ moves text. Ok (row_with d class moves, text)) moves_steady
     (λ moves. pure_steady (row_with d class moves))))
 
-rows_steady : (classes : ℕ) → Steady Anywhere (rows_item classes)
-unfolding rows_item
+rows_steady : (classes : ℕ) → Steady Anywhere (knot_rows_item classes)
+unfolding knot_rows_item
 rows_steady classes =
     then_steady Anywhere (how_many (codes "rows")) (λ count text. in_turn (row_item classes) count text) (how_many_steady (codes "rows"))
     (λ count. turns_steady (row_item classes) count (row_steady classes))
@@ -335,11 +335,11 @@ fourth_at_at line =
     at_bind (word_at (codes "certificate") line) (λ rest e.
     at_bind (at_same ((word_keeps (codes "certificate") line).of rest e) (last_count_at rest)) (λ version f. at_cond (version == FOURTH_VERSION) at_ok at_malformed))
 
-abbrev table_with : List Block → List Class → List OpenPair → List Row → KnotTable
+abbrev table_with : List Block → List Class → List OpenPair → List KnotRow → KnotTable
 table_with blocks classes left rows = record { blocks = blocks; classes = classes; left = left; rows = rows }
 
 abbrev from_rows : List Block → List Class → List OpenPair → Text → Result KnotTable TextFault
-from_rows blocks classes left text = rows_item (length classes) text >>= λ rows. text_end rows.1 >>= λ end. Ok (table_with blocks classes left rows.0)
+from_rows blocks classes left text = knot_rows_item (length classes) text >>= λ rows. text_end rows.1 >>= λ end. Ok (table_with blocks classes left rows.0)
 
 abbrev from_left : List Block → List Class → Text → Result KnotTable TextFault
 from_left blocks classes text = left_item (length classes) text >>= λ left. from_rows blocks classes left.0 left.1
@@ -349,7 +349,7 @@ from_classes blocks text = classes_item blocks text >>= λ classes. from_left bl
 
 from_rows_fails : (blocks : List Block) (classes : List Class) (left : List OpenPair) → FailsFirst (from_rows blocks classes left)
 from_rows_fails blocks classes left =
-    then_fails Anywhere (rows_item (length classes)) (λ rows text. text_end text >>= λ end. Ok (table_with blocks classes left rows)) anywhere_seen
+    then_fails Anywhere (knot_rows_item (length classes)) (λ rows text. text_end text >>= λ end. Ok (table_with blocks classes left rows)) anywhere_seen
     (rows_steady (length classes)) (λ rows. end_fails (table_with blocks classes left rows))
 
 from_left_fails : (blocks : List Block) (classes : List Class) → FailsFirst (from_left blocks classes)

@@ -15,9 +15,10 @@ use Rattle.certificates.proofs.Earlier.{anything}
 use Rattle.evidence_core.specs.declared.blocks.Block.{Block}
 use Rattle.number_text.specs.Evidence.{seeds_at}
 use Rattle.table_check.specs.declared.class_items.Class.{Class}
-use Rattle.table_check.specs.declared.row_items.Row.{Row}
+use Rattle.table_check.specs.declared.row_items.KnotRow.{KnotRow}
 use Rattle.table_check.specs.declared.tables.KnotTable.{KnotTable}
-use Rattle.table_check.specs.Tables.{how_many, blocks_item, counts_item, class_item, classes_item, left_item, class_at, row_item, rows_item, fourth_at, table_in, table_of}
+use Rattle.table_check.specs.Tables.{how_many, blocks_item, counts_item, class_item, classes_item, left_item, class_at, row_item, knot_rows_item, fourth_at}
+use Rattle.table_check.specs.Tables.{table_in, knot_table_of}
 
 turns_say : {A : Type 0} (P : A → Type 0) (item : Text → Result (A × Text) TextFault) (count : ℕ) (text : Text)
     → ((t : Text) → Says (item t) (λ x. P x.0)) → Says (in_turn item count text) (λ xs. All P xs.0)
@@ -34,7 +35,7 @@ diagram_says text = record { of = λ x is. diagram_is text x.0 x.1 is }
 abbrev HasGrid : Class → Type 0
 HasGrid c = IsGrid (grid_of c.diagram)
 
-abbrev RowHasGrid : Row → Type 0
+abbrev RowHasGrid : KnotRow → Type 0
 RowHasGrid r = IsGrid (grid_of r.diagram)
 
 class_says : (blocks : List Block) (text : Text) → Says (class_item blocks text) (λ c. HasGrid c.0)
@@ -61,8 +62,8 @@ classes_say blocks text =
     says_bind (λ x. Unit {0}) (anything (how_many (codes "classes") text)) (λ count a.
     turns_say HasGrid (class_item blocks) count.0 count.1 (class_says blocks))
 
-rows_say : (classes : ℕ) (text : Text) → Says (rows_item classes text) (λ rs. All RowHasGrid rs.0)
-unfolding rows_item
+rows_say : (classes : ℕ) (text : Text) → Says (knot_rows_item classes text) (λ rs. All RowHasGrid rs.0)
+unfolding knot_rows_item
 rows_say classes text =
     says_bind (λ x. Unit {0}) (anything (how_many (codes "rows") text)) (λ count a.
     turns_say RowHasGrid (row_item classes) count.0 count.1 (row_says classes))
@@ -82,6 +83,6 @@ table_says text =
     says_bind (λ x. Unit {0}) (anything (text_end rows.1)) (λ end e.
     says_ok (record { blocks = blocks.0; classes = classes.0; left = left.0; rows = rows.0 }) (class_grids, row_grids))))))))
 
-pub table_grids : (bytes : List ℕ) (t : KnotTable) → table_of bytes ≡ Ok t
+pub table_grids : (bytes : List ℕ) (t : KnotTable) → knot_table_of bytes ≡ Ok t
     → All (λ c. IsGrid (grid_of c.diagram)) t.classes × All (λ r. IsGrid (grid_of r.diagram)) t.rows
 table_grids bytes t is = (table_says (text_of bytes)).of t is

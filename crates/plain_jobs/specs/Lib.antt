@@ -4,7 +4,7 @@ pub mod EquallyMany
 pub use Rattle.reply_text.specs.Reply
 pub mod Jobs
 pub mod Job
-pub mod Truth
+pub mod TextTruth
 pub use Rattle.knot_ports.specs.Status
 pub use Rattle.number_text.specs.Said
 pub use Rattle.check_job.specs.Input

@@ -1,7 +1,7 @@
 //! The answer of each plain job.
 ghost use Rattle.std.specs.Prelude.{◌≡◌, IfOk};
 ghost use Rattle.plain_jobs.specs.Job.{AnswersPlainly};
-ghost use Rattle.plain_jobs.specs.Truth.{IsTrueText};
+ghost use Rattle.plain_jobs.specs.TextTruth.{IsTrueText};
 
 use crate::jobs::{
     braid, braidcheck, close, code, colour, grid, linking, numbers, replay, weights,

@@ -9,7 +9,9 @@ use Rattle.std.proofs.lemmas.List.Sums.{passes_at_first, fails_before_first}
 use Rattle.std.proofs.lemmas.Map.Keys.{IsDistinct-from_apart}
 use Rattle.std.proofs.lemmas.Map.Steps.{length-le_from_distinct_below}
 use Rattle.quandle_core.specs.Quandle.{Table, IsQuandle, over, back}
-use Rattle.quandle_core.specs.Fault.{first, order_fault, length_fault, range_fault, idempotent_fault, collision_fault, distributive_fault, law_fault, first_fault_within, first_fault, range_case, idempotent_case, collision_case, distributive_case, collides, distributes, or_else}
+use Rattle.quandle_core.specs.Fault.{first, order_fault, length_fault, range_fault, idempotent_fault, collision_fault, distributive_fault, law_fault}
+use Rattle.quandle_core.specs.Fault.{first_fault_within, first_quandle_fault, range_case, idempotent_case, collision_case, distributive_case, collides}
+use Rattle.quandle_core.specs.Fault.{distributes, or_else}
 use Rattle.quandle_core.specs.declared.fault.QuandleFault.TheVariants.{Order, Length, Range, Idempotent, Collision, Distributive}
 use Rattle.quandle_core.specs.declared.quandle.TheConstants.{MAX_ORDER}
 use Rattle.quandle_core.proofs.Firsts.{first_none, first_all, unless_none, unless_true, both_none, none_else}
@@ -140,7 +142,7 @@ quandle_within most t none =
       leb-true t.order most orders.1,
     )
 
-pub quandle_from_none : (t : Table) → first_fault t ≡ None → IsQuandle t
+pub quandle_from_none : (t : Table) → first_quandle_fault t ≡ None → IsQuandle t
 quandle_from_none t none = (quandle_within MAX_ORDER t none).0
 
 -- a quandle takes no value twice in a column
@@ -176,7 +178,7 @@ none_within most t q few =
     (λ z by_z. unless_true (distributes t x y z) (Distributive x y z)
     (eq-eqb (over t (over t x y) z) (over t (over t x z) (over t y z)) (q.distributive x y z at by_y by_z))))))))))
 
-pub none_from_quandle : (t : Table) → IsQuandle t → t.order ≤ MAX_ORDER → first_fault t ≡ None
+pub none_from_quandle : (t : Table) → IsQuandle t → t.order ≤ MAX_ORDER → first_quandle_fault t ≡ None
 none_from_quandle t q few = none_within MAX_ORDER t q few
 
 -- where the order is within the bound, the bound doesn't matter

@@ -4,29 +4,29 @@ use Rattle.std.proofs.lemmas.Bool.{eq-eqb, both_ways}
 use Rattle.std.proofs.lemmas.Nat.{mul-add-lt}
 use Rattle.quandle_core.specs.Quandle.{Table, IsQuandle, over, back}
 use Rattle.quandle_core.specs.Tables.{table_of}
-use Rattle.quandle_core.specs.Columns.{cell_at, columns}
+use Rattle.quandle_core.specs.Columns.{cell_at, operation_columns}
 use Rattle.quandle_core.proofs.Entries.{entry, entries_are, table_is, same_table, length_entries}
 
-pub column_cell : (n : ℕ) (f : ℕ → ℕ → ℕ) (x y : ℕ) → x < n → y < n → cell_at n (columns n f) x y ≡ f x y
+pub column_cell : (n : ℕ) (f : ℕ → ℕ → ℕ) (x y : ℕ) → x < n → y < n → cell_at n (operation_columns n f) x y ≡ f x y
 column_cell n f x y at by_y = entry n (λ a b. f b a) y x by_y at
 
-pub same_columns : (n : ℕ) (f g : ℕ → ℕ → ℕ) → ((x y : ℕ) → x < n → y < n → f x y ≡ g x y) → columns n f ≡ columns n g
+pub same_columns : (n : ℕ) (f g : ℕ → ℕ → ℕ) → ((x y : ℕ) → x < n → y < n → f x y ≡ g x y) → operation_columns n f ≡ operation_columns n g
 same_columns n f g same = ap (λ (t : Table). t.entries) (same_table n (λ a b. f b a) (λ a b. g b a) (λ a b at by_b. same b a by_b at))
 
 -- each place of a square of columns lies inside
-pub inside_columns : (n : ℕ) (f : ℕ → ℕ → ℕ) (cells : List ℕ) → cells ≡ columns n f → (x y : ℕ) → x < n → y < n → y * n + x < length cells
+pub inside_columns : (n : ℕ) (f : ℕ → ℕ → ℕ) (cells : List ℕ) → cells ≡ operation_columns n f → (x y : ℕ) → x < n → y < n → y * n + x < length cells
 inside_columns n f cells is x y at by_y =
     let lt : y * n + x < n * n = mul-add-lt y n x n by_y at in
     let long : length cells ≡ n * n = ap (λ (xs : List ℕ). length xs) is ∙ length_entries n (λ a b. f b a) in
     omega (arith, lt, long)
 
 -- the table of the columns of a table's operation is the table
-pub table_again : (t : Table) → IsQuandle t → (cells : List ℕ) → cells ≡ columns t.order (over t) → table_of t.order (cell_at t.order cells) ≡ t
+pub table_again : (t : Table) → IsQuandle t → (cells : List ℕ) → cells ≡ operation_columns t.order (over t) → table_of t.order (cell_at t.order cells) ≡ t
 table_again t q cells is =
     table_is t.order (cell_at t.order cells) t.entries q.square
     (λ x y at by_y. sym (ap (λ (xs : List ℕ). cell_at t.order xs x y) is ∙ column_cell t.order (over t) x y at by_y))
 
-pub columns_again : (t : Table) (cells : List ℕ) → cells ≡ columns t.order (over t) → cells ≡ columns t.order (cell_at t.order cells)
+pub columns_again : (t : Table) (cells : List ℕ) → cells ≡ operation_columns t.order (over t) → cells ≡ operation_columns t.order (cell_at t.order cells)
 columns_again t cells is =
     is ∙ same_columns t.order (over t) (cell_at t.order cells)
     (λ x y at by_y. sym (ap (λ (xs : List ℕ). cell_at t.order xs x y) is ∙ column_cell t.order (over t) x y at by_y))

@@ -12,5 +12,5 @@ abbrev pub cell : List ℕ → ℕ → ℕ → ℕ
 cell = cell_at MAX_ORDER
 
 -- the columns of an operation on the numbers below n, one behind the other
-abbrev pub columns : ℕ → (ℕ → ℕ → ℕ) → List ℕ
-columns n f = (table_of n (λ y x. f x y)).entries
+abbrev pub operation_columns : ℕ → (ℕ → ℕ → ℕ) → List ℕ
+operation_columns n f = (table_of n (λ y x. f x y)).entries

@@ -77,5 +77,5 @@ abbrev pub first_fault_within : ℕ → Table → Option QuandleFault
 first_fault_within most t = or_else (order_fault most t) (law_fault t)
 
 -- the same where the order is to be at most MAX_ORDER
-abbrev pub first_fault : Table → Option QuandleFault
-first_fault t = first_fault_within MAX_ORDER t
+abbrev pub first_quandle_fault : Table → Option QuandleFault
+first_quandle_fault t = first_fault_within MAX_ORDER t

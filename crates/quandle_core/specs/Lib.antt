@@ -1,7 +1,7 @@
 pub mod Quandle
 pub mod Tables
 pub mod Fault
-pub mod Cases
+pub mod QuandleCases
 pub mod Columns
 pub mod Colours
 pub mod Bijection

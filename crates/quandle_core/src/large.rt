@@ -4,7 +4,7 @@ ghost use Rattle.quandle_core.specs.declared.fault.QuandleFault.{QuandleFault};
 ghost use Rattle.quandle_core.specs.declared.large.LargeFault.TheVariants as large;
 ghost use Rattle.quandle_core.specs.declared.operations.TheConstants.{MAX_LARGE_ORDER};
 ghost use Rattle.quandle_core.specs.Quandle.{IsQuandle, over, back};
-ghost use Rattle.quandle_core.specs.Columns.{columns};
+ghost use Rattle.quandle_core.specs.Columns.{operation_columns};
 ghost use Rattle.quandle_core.specs.Fault.{first_fault_within};
 
 use crate::fault::{QuandleFault, entry, table_fault};
@@ -45,15 +45,15 @@ impl Model for LargeQuandle {
     ghost use Rattle.quandle_core.specs.declared.operations.TheConstants.{MAX_LARGE_ORDER};
     ghost use Rattle.quandle_core.specs.Quandle.{Table, IsQuandle, back};
     ghost use Rattle.quandle_core.specs.Tables.{table_of};
-    ghost use Rattle.quandle_core.specs.Columns.{cell_at, columns};
+    ghost use Rattle.quandle_core.specs.Columns.{cell_at, operation_columns};
 
     ghost Value = { Table };
 
     ghost view = { λ q. table_of q.order (cell_at q.order q.forward.items) };
 
     ghost invariant = { λ q. IsQuandle (table_of q.order (cell_at q.order q.forward.items)) × (q.order ≤ MAX_LARGE_ORDER)
-        × (q.forward.items ≡ columns q.order (cell_at q.order q.forward.items))
-        × (q.backward.items ≡ columns q.order (back (table_of q.order (cell_at q.order q.forward.items)))) };
+        × (q.forward.items ≡ operation_columns q.order (cell_at q.order q.forward.items))
+        × (q.backward.items ≡ operation_columns q.order (back (table_of q.order (cell_at q.order q.forward.items)))) };
 }
 
 impl LargeQuandle {
@@ -129,7 +129,7 @@ fn entries_of(alloc: Global, order: u8, quandle: &Operations) -> Result<Vec<u8>,
 fn over_columns(alloc: Global, order: u8, table: &[u8]) -> Result<Vec<u8>, AllocFailed<u8>>
     requires least { 1 ≤ order }
     requires square { length table.now ≡ order * order }
-    ensures { IfOk result (λ v. v.items ≡ columns order (over (record { order = order; entries = table.now }))) }
+    ensures { IfOk result (λ v. v.items ≡ operation_columns order (over (record { order = order; entries = table.now }))) }
 {
     let size = order as usize;
     let mut cells = Vec::new(alloc);
@@ -144,7 +144,7 @@ fn over_columns(alloc: Global, order: u8, table: &[u8]) -> Result<Vec<u8>, Alloc
 fn back_columns(alloc: Global, order: u8, table: &[u8]) -> Result<Vec<u8>, AllocFailed<u8>>
     requires least { 1 ≤ order }
     requires laws { IsQuandle (record { order = order; entries = table.now }) }
-    ensures { IfOk result (λ v. v.items ≡ columns order (back (record { order = order; entries = table.now }))) }
+    ensures { IfOk result (λ v. v.items ≡ operation_columns order (back (record { order = order; entries = table.now }))) }
 {
     let size = order as usize;
     let mut cells = Vec::new(alloc);

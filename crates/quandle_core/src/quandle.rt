@@ -3,7 +3,7 @@ ghost use Rattle.std.specs.Prelude.{◌≡◌, ◌<◌, ◌≤◌, ◌*◌, IfOk
 ghost use Rattle.std.specs.Result.{result_err};
 ghost use Rattle.quandle_core.specs.Quandle.{IsQuandle, over, back};
 ghost use Rattle.quandle_core.specs.declared.quandle.TheConstants.{MAX_ORDER};
-ghost use Rattle.quandle_core.specs.Fault.{first_fault};
+ghost use Rattle.quandle_core.specs.Fault.{first_quandle_fault};
 
 use crate::fault::{QuandleFault, entry, table_fault};
 use crate::operations::Operations;
@@ -47,7 +47,7 @@ impl Quandle {
     ///
     /// Else the first law that the table breaks, with its lexicographically first case.
     pub fn new(order: u8, table: &[u8]) -> Result<Quandle, QuandleFault>
-        ensures fault { result_err result ≡ first_fault (record { order = order; entries = table.now }) }
+        ensures fault { result_err result ≡ first_quandle_fault (record { order = order; entries = table.now }) }
         ensures quandle { IfOk result (λ q. q ≡ record { order = order; entries = table.now }) }
     {
         match table_fault(MAX_ORDER, order, table) {

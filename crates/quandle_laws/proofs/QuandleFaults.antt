@@ -4,7 +4,7 @@ use Rattle.std.specs.Prelude.{nat_lt, nat_le}
 use Rattle.std.proofs.lemmas.Bool.{le-leb, eqb-true, eq-eqb, ltb-true, lt-ltb, leb-true, and_parts, and_from, not-true, cases_lt, cases_order, both_ways, not-false}
 use Rattle.quandle_core.specs.Quandle.{Table, over}
 use Rattle.quandle_core.specs.Colours.{ComesBefore}
-use Rattle.quandle_core.specs.Cases.{IsFaultOf, IsFirstFault, kind, case_of}
+use Rattle.quandle_core.specs.QuandleCases.{IsQuandleFaultOf, IsFirstQuandleFault, quandle_law_rank, quandle_case_of}
 use Rattle.quandle_core.specs.Fault.{first, order_fault, length_fault, range_fault, idempotent_fault, collision_fault, distributive_fault, first_fault_within, range_case, idempotent_case, collision_case, distributive_case, collides, distributes, or_else}
 use Rattle.quandle_core.specs.declared.fault.QuandleFault.{QuandleFault}
 use Rattle.quandle_core.specs.declared.fault.QuandleFault.TheVariants.{Order, Length, Range, Idempotent, Collision, Distributive, NoInverse}
@@ -27,24 +27,24 @@ by_laws most t =
     (sym (or_else_none (distributive_fault t)))
 
 -- one case that is no fault
-range_holds : (most : ℕ) (t : Table) (x y : ℕ) → range_case t x y ≡ None → IsFaultOf most t (Range x y) → ⊥
+range_holds : (most : ℕ) (t : Table) (x y : ℕ) → range_case t x y ≡ None → IsQuandleFaultOf most t (Range x y) → ⊥
 range_holds most t x y none fails =
     let under = ltb-true (over t x y) t.order (unless_none (nat_lt (over t x y) t.order) (Range x y) none) in
     absurd (omega (arith, under, fails.2))
 
-idempotent_holds : (most : ℕ) (t : Table) (x : ℕ) → idempotent_case t x ≡ None → IsFaultOf most t (Idempotent x) → ⊥
+idempotent_holds : (most : ℕ) (t : Table) (x : ℕ) → idempotent_case t x ≡ None → IsQuandleFaultOf most t (Idempotent x) → ⊥
 idempotent_holds most t x none fails = fails.1 (eqb-true (over t x x) x (unless_none (over t x x == x) (Idempotent x) none))
 
-collision_holds : (most : ℕ) (t : Table) (x z y : ℕ) → collision_case t x z y ≡ None → IsFaultOf most t (Collision x z y) → ⊥
+collision_holds : (most : ℕ) (t : Table) (x z y : ℕ) → collision_case t x z y ≡ None → IsQuandleFaultOf most t (Collision x z y) → ⊥
 collision_holds most t x z y none fails =
     both_ways (collides t x z y) (not-true (collides t x z y) (unless_none (not (collides t x z y)) (Collision x z y) none))
     (and_from (nat_lt x z) (over t x y == over t z y) (lt-ltb x z fails.0) (eq-eqb (over t x y) (over t z y) fails.3))
 
-distributive_holds : (most : ℕ) (t : Table) (x y z : ℕ) → distributive_case t x y z ≡ None → IsFaultOf most t (Distributive x y z) → ⊥
+distributive_holds : (most : ℕ) (t : Table) (x y z : ℕ) → distributive_case t x y z ≡ None → IsQuandleFaultOf most t (Distributive x y z) → ⊥
 distributive_holds most t x y z none fails =
     fails.3 (eqb-true (over t (over t x y) z) (over t (over t x z) (over t y z)) (unless_none (distributes t x y z) (Distributive x y z) none))
 
-order_holds : (most : ℕ) (t : Table) → order_fault most t ≡ None → IsFaultOf most t Order → ⊥
+order_holds : (most : ℕ) (t : Table) → order_fault most t ≡ None → IsQuandleFaultOf most t Order → ⊥
 order_holds most t none fails =
     let both = and_parts (nat_le 1 t.order) (nat_le t.order most) (unless_none (nat_le 1 t.order && nat_le t.order most) Order none) in
     let least = leb-true 1 t.order both.0 in
@@ -55,7 +55,7 @@ order_holds most t none fails =
     ]
 
 -- where a law has no first fault, it has none
-no_fault_of_law : (most : ℕ) (t : Table) (fault : QuandleFault) → fault_of_law most t (kind fault) ≡ None → IsFaultOf most t fault → ⊥
+no_fault_of_law : (most : ℕ) (t : Table) (fault : QuandleFault) → fault_of_law most t (quandle_law_rank fault) ≡ None → IsQuandleFaultOf most t fault → ⊥
 no_fault_of_law most t Order none fails = order_holds most t none fails
 no_fault_of_law most t Length none fails =
     fails (eqb-true (length t.entries) (t.order * t.order) (unless_none (length t.entries == t.order * t.order) Length none))
@@ -67,12 +67,13 @@ no_fault_of_law most t NoInverse none fails = fails
 
 -- the first fault of one law: it is one, and no smaller case of the law is
 record IsFirstOfLaw (most : ℕ) (t : Table) (k : ℕ) (fault : QuandleFault) : Type 0 where
-  is_of : kind fault ≡ k
-  fails : IsFaultOf most t fault
-  smaller : (other : QuandleFault) → kind other ≡ k → ComesBefore (case_of other) (case_of fault) → IsFaultOf most t other → ⊥
+  is_of : quandle_law_rank fault ≡ k
+  fails : IsQuandleFaultOf most t fault
+  smaller : (other : QuandleFault) → quandle_law_rank other ≡ k → ComesBefore (quandle_case_of other) (quandle_case_of fault) → IsQuandleFaultOf most t other
+      → ⊥
 
 smaller_range : (most : ℕ) (t : Table) (x y : ℕ) → ((v w : ℕ) → v < t.order → w < t.order → ComesBefore (v ∷ w ∷ []) (x ∷ y ∷ []) → range_case t v w ≡ None)
-    → (other : QuandleFault) → kind other ≡ 2 → ComesBefore (case_of other) (x ∷ y ∷ []) → IsFaultOf most t other → ⊥
+    → (other : QuandleFault) → quandle_law_rank other ≡ 2 → ComesBefore (quandle_case_of other) (x ∷ y ∷ []) → IsQuandleFaultOf most t other → ⊥
 smaller_range most t x y before Order is less fails = absurd (omega (arith, is))
 smaller_range most t x y before Length is less fails = absurd (omega (arith, is))
 smaller_range most t x y before (Range v w) is less fails = range_holds most t v w (before v w fails.0 fails.1 less) fails
@@ -82,7 +83,7 @@ smaller_range most t x y before (Distributive u v w) is less fails = absurd (ome
 smaller_range most t x y before NoInverse is less fails = fails
 
 smaller_idempotent : (most : ℕ) (t : Table) (x : ℕ) → ((v : ℕ) → v < t.order → ComesBefore (v ∷ []) (x ∷ []) → idempotent_case t v ≡ None)
-    → (other : QuandleFault) → kind other ≡ 3 → ComesBefore (case_of other) (x ∷ []) → IsFaultOf most t other → ⊥
+    → (other : QuandleFault) → quandle_law_rank other ≡ 3 → ComesBefore (quandle_case_of other) (x ∷ []) → IsQuandleFaultOf most t other → ⊥
 smaller_idempotent most t x before Order is less fails = absurd (omega (arith, is))
 smaller_idempotent most t x before Length is less fails = absurd (omega (arith, is))
 smaller_idempotent most t x before (Range v w) is less fails = absurd (omega (arith, is))
@@ -93,7 +94,7 @@ smaller_idempotent most t x before NoInverse is less fails = fails
 
 smaller_collision : (most : ℕ) (t : Table) (x z y : ℕ)
     → ((u v w : ℕ) → u < t.order → v < t.order → w < t.order → ComesBefore (u ∷ v ∷ w ∷ []) (x ∷ z ∷ y ∷ []) → collision_case t u v w ≡ None)
-    → (other : QuandleFault) → kind other ≡ 4 → ComesBefore (case_of other) (x ∷ z ∷ y ∷ []) → IsFaultOf most t other → ⊥
+    → (other : QuandleFault) → quandle_law_rank other ≡ 4 → ComesBefore (quandle_case_of other) (x ∷ z ∷ y ∷ []) → IsQuandleFaultOf most t other → ⊥
 smaller_collision most t x z y before Order is less fails = absurd (omega (arith, is))
 smaller_collision most t x z y before Length is less fails = absurd (omega (arith, is))
 smaller_collision most t x z y before (Range v w) is less fails = absurd (omega (arith, is))
@@ -105,7 +106,7 @@ smaller_collision most t x z y before NoInverse is less fails = fails
 
 smaller_distributive : (most : ℕ) (t : Table) (x y z : ℕ)
     → ((u v w : ℕ) → u < t.order → v < t.order → w < t.order → ComesBefore (u ∷ v ∷ w ∷ []) (x ∷ y ∷ z ∷ []) → distributive_case t u v w ≡ None)
-    → (other : QuandleFault) → kind other ≡ 5 → ComesBefore (case_of other) (x ∷ y ∷ z ∷ []) → IsFaultOf most t other → ⊥
+    → (other : QuandleFault) → quandle_law_rank other ≡ 5 → ComesBefore (quandle_case_of other) (x ∷ y ∷ z ∷ []) → IsQuandleFaultOf most t other → ⊥
 smaller_distributive most t x y z before Order is less fails = absurd (omega (arith, is))
 smaller_distributive most t x y z before Length is less fails = absurd (omega (arith, is))
 smaller_distributive most t x y z before (Range v w) is less fails = absurd (omega (arith, is))
@@ -123,7 +124,7 @@ no_smaller (x ∷ xs) less = less
 of_order : (most : ℕ) (t : Table) (fault : QuandleFault) → order_fault most t ≡ Some fault → IsFirstOfLaw most t 0 fault
 of_order most t fault found =
     let parts = unless_some (nat_le 1 t.order && nat_le t.order most) Order fault found in
-    let fails : IsFaultOf most t Order = elim (cases_lt t.order 1) [
+    let fails : IsQuandleFaultOf most t Order = elim (cases_lt t.order 1) [
       | inl under ↦ inl under
       | inr least ↦ elim (cases_lt most t.order) [
         | inl above ↦ inr above
@@ -132,7 +133,7 @@ of_order most t fault found =
             (and_from (nat_le 1 t.order) (nat_le t.order most) (le-leb 1 t.order least) (le-leb t.order most few)))
       ]
     ] in
-    subst (IsFirstOfLaw most t 0) parts.1 (record { is_of = refl; fails = fails; smaller = λ other is less also. no_smaller (case_of other) less })
+    subst (IsFirstOfLaw most t 0) parts.1 (record { is_of = refl; fails = fails; smaller = λ other is less also. no_smaller (quandle_case_of other) less })
 
 of_length : (most : ℕ) (t : Table) (fault : QuandleFault) → length_fault t ≡ Some fault → IsFirstOfLaw most t 1 fault
 of_length most t fault found =
@@ -141,7 +142,7 @@ of_length most t fault found =
     (record {
       is_of = refl;
       fails = λ e. both_ways (length t.entries == t.order * t.order) parts.0 (eq-eqb (length t.entries) (t.order * t.order) e);
-      smaller = λ other is less also. no_smaller (case_of other) less;
+      smaller = λ other is less also. no_smaller (quandle_case_of other) less;
     })
 
 of_range : (most : ℕ) (t : Table) (fault : QuandleFault) → range_fault t ≡ Some fault → IsFirstOfLaw most t 2 fault
@@ -205,14 +206,15 @@ of_law most t (suc (suc (suc (suc (suc zero))))) fault lt found = of_distributiv
 of_law most t (suc (suc (suc (suc (suc (suc k)))))) fault lt found = absurd (omega (arith, lt))
 
 -- what the search finds comes first
-pub found_is_first : (most : ℕ) (t : Table) (fault : QuandleFault) → first_fault_within most t ≡ Some fault → IsFirstFault most t fault
+pub found_is_first : (most : ℕ) (t : Table) (fault : QuandleFault) → first_fault_within most t ≡ Some fault → IsFirstQuandleFault most t fault
 found_is_first most t fault found =
     let l = least1 6 (fault_of_law most t) fault (sym (by_laws most t) ∙ found) in
     let here = of_law most t l.x fault l.below l.here in
     record {
       fails = here.fails;
       earlier = λ other under also.
-          no_fault_of_law most t other (l.before (kind other) (omega (arith, under, here.is_of, l.below)) (inl (omega (arith, under, here.is_of)))) also;
+          no_fault_of_law most t other
+          (l.before (quandle_law_rank other) (omega (arith, under, here.is_of, l.below)) (inl (omega (arith, under, here.is_of)))) also;
       smaller = λ other same less also. here.smaller other (same ∙ here.is_of) less also;
     }
 
@@ -245,7 +247,7 @@ fault_from (suc (suc (suc (suc zero)))) xs = Collision (slice_index xs 0) (slice
 fault_from (suc (suc (suc (suc (suc zero))))) xs = Distributive (slice_index xs 0) (slice_index xs 1) (slice_index xs 2)
 fault_from (suc (suc (suc (suc (suc (suc k)))))) xs = NoInverse
 
-told : (fault : QuandleFault) → fault ≡ fault_from (kind fault) (case_of fault)
+told : (fault : QuandleFault) → fault ≡ fault_from (quandle_law_rank fault) (quandle_case_of fault)
 told Order = refl
 told Length = refl
 told (Range x y) = refl
@@ -264,7 +266,7 @@ case_length (suc (suc (suc (suc zero)))) = 3
 case_length (suc (suc (suc (suc (suc zero))))) = 3
 case_length (suc (suc (suc (suc (suc (suc k)))))) = 0
 
-told_length : (fault : QuandleFault) → length (case_of fault) ≡ case_length (kind fault)
+told_length : (fault : QuandleFault) → length (quandle_case_of fault) ≡ case_length (quandle_law_rank fault)
 told_length Order = refl
 told_length Length = refl
 told_length (Range x y) = refl
@@ -274,13 +276,13 @@ told_length (Distributive x y z) = refl
 told_length NoInverse = refl
 
 -- two first faults are the same
-one_first : (most : ℕ) (t : Table) (f g : QuandleFault) → IsFirstFault most t f → IsFirstFault most t g → f ≡ g
-one_first most t f g a b = elim (cases_order (kind f) (kind g)) [
-  | inl same ↦ elim (order_of_lists (case_of f) (case_of g) (told_length f ∙ (ap case_length same ∙ sym (told_length g)))) [
+one_first : (most : ℕ) (t : Table) (f g : QuandleFault) → IsFirstQuandleFault most t f → IsFirstQuandleFault most t g → f ≡ g
+one_first most t f g a b = elim (cases_order (quandle_law_rank f) (quandle_law_rank g)) [
+  | inl same ↦ elim (order_of_lists (quandle_case_of f) (quandle_case_of g) (told_length f ∙ (ap case_length same ∙ sym (told_length g)))) [
     | inl less ↦ absurd (b.smaller f same less a.fails)
     | inr other ↦ elim other [
       | inl more ↦ absurd (a.smaller g (sym same) more b.fails)
-      | inr e ↦ told f ∙ (ap (λ (k : ℕ). fault_from k (case_of f)) same ∙ (ap (fault_from (kind g)) e ∙ sym (told g)))
+      | inr e ↦ told f ∙ (ap (λ (k : ℕ). fault_from k (quandle_case_of f)) same ∙ (ap (fault_from (quandle_law_rank g)) e ∙ sym (told g)))
     ]
   ]
   | inr other ↦ elim other [
@@ -289,7 +291,7 @@ one_first most t f g a b = elim (cases_order (kind f) (kind g)) [
   ]
 ]
 
-within : (most : ℕ) (t : Table) (fault : QuandleFault) → IsFaultOf most t fault → kind fault < 6
+within : (most : ℕ) (t : Table) (fault : QuandleFault) → IsQuandleFaultOf most t fault → quandle_law_rank fault < 6
 within most t Order fails = omega arith
 within most t Length fails = omega arith
 within most t (Range x y) fails = omega arith
@@ -298,13 +300,13 @@ within most t (Collision x z y) fails = omega arith
 within most t (Distributive x y z) fails = omega arith
 within most t NoInverse fails = absurd fails
 
-found_again : (most : ℕ) (t : Table) (fault : QuandleFault) → IsFirstFault most t fault → (o : Option QuandleFault) → first_fault_within most t ≡ o
+found_again : (most : ℕ) (t : Table) (fault : QuandleFault) → IsFirstQuandleFault most t fault → (o : Option QuandleFault) → first_fault_within most t ≡ o
     → first_fault_within most t ≡ Some fault
 found_again most t fault first (Some other) e = e ∙ ap (λ (f : QuandleFault). Some f) (one_first most t other fault (found_is_first most t other e) first)
 found_again most t fault first None e =
-    let none = first_none (fault_of_law most t) 6 (kind fault) (sym (by_laws most t) ∙ e) (within most t fault first.fails) in
+    let none = first_none (fault_of_law most t) 6 (quandle_law_rank fault) (sym (by_laws most t) ∙ e) (within most t fault first.fails) in
     absurd (no_fault_of_law most t fault none first.fails)
 
 -- what comes first is what the search finds
-pub first_is_found : (most : ℕ) (t : Table) (fault : QuandleFault) → IsFirstFault most t fault → first_fault_within most t ≡ Some fault
+pub first_is_found : (most : ℕ) (t : Table) (fault : QuandleFault) → IsFirstQuandleFault most t fault → first_fault_within most t ≡ Some fault
 first_is_found most t fault first = found_again most t fault first (first_fault_within most t) refl

@@ -4,7 +4,7 @@ use Rattle.quandle_core.specs.declared.quandle.TheConstants.{MAX_ORDER}
 use Rattle.quandle_core.specs.declared.operations.TheConstants.{MAX_LARGE_ORDER}
 use Rattle.quandle_core.specs.Quandle.{over, back}
 use Rattle.quandle_core.specs.Tables.{dihedral, alexander, tetrahedral, is_unit}
-use Rattle.quandle_core.specs.Fault.{first_fault}
+use Rattle.quandle_core.specs.Fault.{first_quandle_fault}
 use Rattle.quandle_core.specs.Colours.{are_colours, all_lists}
 use Rattle.quandle_core.specs.declared.fault.QuandleFault.TheVariants.{Order, Length, Range, Idempotent, Collision, Distributive}
 
@@ -37,31 +37,31 @@ two_has_no_inverse = refl
 three_has_one : is_unit 4 3 ≡ true
 three_has_one = refl
 
-no_colours : first_fault (record { order = 0; entries = [] }) ≡ Some Order
+no_colours : first_quandle_fault (record { order = 0; entries = [] }) ≡ Some Order
 no_colours = refl
 
-too_short : first_fault (record { order = 2; entries = 0 ∷ 0 ∷ 1 ∷ [] }) ≡ Some Length
+too_short : first_quandle_fault (record { order = 2; entries = 0 ∷ 0 ∷ 1 ∷ [] }) ≡ Some Length
 too_short = refl
 
-outside : first_fault (record { order = 2; entries = 0 ∷ 0 ∷ 2 ∷ 1 ∷ [] }) ≡ Some (Range 1 0)
+outside : first_quandle_fault (record { order = 2; entries = 0 ∷ 0 ∷ 2 ∷ 1 ∷ [] }) ≡ Some (Range 1 0)
 outside = refl
 
-not_idempotent : first_fault (record { order = 2; entries = 1 ∷ 0 ∷ 0 ∷ 1 ∷ [] }) ≡ Some (Idempotent 0)
+not_idempotent : first_quandle_fault (record { order = 2; entries = 1 ∷ 0 ∷ 0 ∷ 1 ∷ [] }) ≡ Some (Idempotent 0)
 not_idempotent = refl
 
 -- 0 ▷ 1 = 1 ▷ 1
-collision : first_fault (record { order = 2; entries = 0 ∷ 1 ∷ 1 ∷ 1 ∷ [] }) ≡ Some (Collision 0 1 1)
+collision : first_quandle_fault (record { order = 2; entries = 0 ∷ 1 ∷ 1 ∷ 1 ∷ [] }) ≡ Some (Collision 0 1 1)
 collision = refl
 
 -- 0 ▷ 2 = 1 ▷ 2 and 0 ▷ 0 = 2 ▷ 0: the lesser second colour is told first, then the lesser third
-lesser_second_colour : first_fault (record { order = 3; entries = 0 ∷ 2 ∷ 0 ∷ 1 ∷ 1 ∷ 0 ∷ 0 ∷ 0 ∷ 2 ∷ [] }) ≡ Some (Collision 0 1 2)
+lesser_second_colour : first_quandle_fault (record { order = 3; entries = 0 ∷ 2 ∷ 0 ∷ 1 ∷ 1 ∷ 0 ∷ 0 ∷ 0 ∷ 2 ∷ [] }) ≡ Some (Collision 0 1 2)
 lesser_second_colour = refl
 
 -- the first two laws hold, and the third fails
-not_distributive : first_fault (record { order = 3; entries = 0 ∷ 2 ∷ 0 ∷ 2 ∷ 1 ∷ 1 ∷ 1 ∷ 0 ∷ 2 ∷ [] }) ≡ Some (Distributive 0 1 0)
+not_distributive : first_quandle_fault (record { order = 3; entries = 0 ∷ 2 ∷ 0 ∷ 2 ∷ 1 ∷ 1 ∷ 1 ∷ 0 ∷ 2 ∷ [] }) ≡ Some (Distributive 0 1 0)
 not_distributive = refl
 
-faultless : first_fault tetrahedral ≡ None
+faultless : first_quandle_fault tetrahedral ≡ None
 faultless = refl
 
 -- lists of colours of a quandle of order 2

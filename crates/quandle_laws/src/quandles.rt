@@ -3,7 +3,7 @@ ghost use Rattle.std.specs.Prelude.{◌≡◌, ◌<◌, ◌≤◌, ◌↔◌, �
 ghost use Rattle.quandle_core.specs.Quandle.{Table, IsQuandle, over, back};
 ghost use Rattle.quandle_core.specs.Tables.{trivial, dihedral, alexander, tetrahedral, is_unit};
 ghost use Rattle.quandle_core.specs.Fault.{first_fault_within};
-ghost use Rattle.quandle_core.specs.Cases.{IsFirstFault};
+ghost use Rattle.quandle_core.specs.QuandleCases.{IsFirstQuandleFault};
 ghost use Rattle.quandle_core.specs.declared.fault.QuandleFault.{QuandleFault};
 
 /// A table has no fault exactly where it is a quandle whose order is within the bound.
@@ -13,7 +13,7 @@ pub fn no_fault_is_a_quandle()
 
 /// The first fault is exactly the one whose case fails, where no earlier law fails and no lexicographically smaller case of its own law.
 pub fn the_first_fault_comes_first()
-    ensures { (most : ℕ) (t : Table) (fault : QuandleFault) → (first_fault_within most t ≡ Some fault) ↔ IsFirstFault most t fault }
+    ensures { (most : ℕ) (t : Table) (fault : QuandleFault) → (first_fault_within most t ≡ Some fault) ↔ IsFirstQuandleFault most t fault }
 {}
 
 /// `x ◁ y` is the one z with `z ▷ y = x`.

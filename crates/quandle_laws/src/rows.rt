@@ -39,7 +39,7 @@ pub fn the_equation_of_a_row_is_its_walk()
 /// exactly where it covers it in the diagram, and no place behind the columns covers any. In a grid each low end lies below
 /// its high end.
 pub fn the_listed_spans_are_those_of_the_columns()
-    ensures columns { (d : Diagram) (c r : ℕ) → c < size d → lanes.covers (spans_of d).lows (spans_of d).highs r c ≡ covers d c r }
-    ensures behind { (d : Diagram) (c r : ℕ) → size d ≤ c → lanes.covers (spans_of d).lows (spans_of d).highs r c ≡ false }
+    ensures columns { (d : Diagram) (c r : ℕ) → c < size d → lanes.lane_covers (spans_of d).lows (spans_of d).highs r c ≡ covers d c r }
+    ensures behind { (d : Diagram) (c r : ℕ) → size d ≤ c → lanes.lane_covers (spans_of d).lows (spans_of d).highs r c ≡ false }
     ensures ordered { (d : Diagram) → IsGrid d → AreSpans (spans_of d).lows (spans_of d).highs }
 {}

@@ -8,8 +8,8 @@ use Rattle.cert_check.specs.declared.ruling.Ruling.{Ruling}
 use Rattle.cert_check.specs.declared.ruling.Ruling.TheVariants.{Accepted, Rejected}
 use Rattle.cert_check.specs.declared.ruling.Why.{Why}
 use Rattle.cert_check.specs.declared.ruling.Why.TheVariants as why
-use Rattle.evidence_core.specs.declared.cause.Ruling.{Ruling as NumberRuling}
-use Rattle.evidence_core.specs.declared.cause.Ruling.TheVariants as numbers
+use Rattle.evidence_core.specs.declared.cause.NumberRuling.{NumberRuling}
+use Rattle.evidence_core.specs.declared.cause.NumberRuling.TheVariants as numbers
 use Rattle.evidence_core.specs.declared.cause.Cause.{Cause}
 use Rattle.evidence_core.specs.declared.cause.Cause.TheVariants as cause
 
@@ -23,12 +23,12 @@ fault_tokens fault.Full = codes "full" ∷ []
 fault_tokens fault.Apart = codes "apart" ∷ []
 
 -- the first move that is not legal, by its place
-abbrev pub step_tokens : ℕ → MoveFault → List (List ℕ)
-step_tokens place fault = codes "step" ∷ decimal place ∷ fault_tokens fault
+abbrev pub illegal_step_tokens : ℕ → MoveFault → List (List ℕ)
+illegal_step_tokens place fault = codes "step" ∷ decimal place ∷ fault_tokens fault
 
 -- why evidence does not hold
 abbrev pub why_tokens : Why → List (List ℕ)
-why_tokens (why.Step place fault) = step_tokens place fault
+why_tokens (why.Step place fault) = illegal_step_tokens place fault
 why_tokens why.OtherEnd = codes "otherend" ∷ []
 why_tokens (why.Wide which bottoms) = codes "wide" ∷ decimal which ∷ decimal bottoms ∷ []
 why_tokens (why.List which place) = codes "list" ∷ decimal which ∷ decimal place ∷ []

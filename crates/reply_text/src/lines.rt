@@ -2,11 +2,12 @@
 ghost use Rattle.std.specs.Prelude.{◌≡◌, ◌++◌, [], ◌∷◌, codes, IfOk, OnOk};
 ghost use Rattle.std.specs.Fmt.{decimal};
 ghost use Rattle.text_lines.specs.Spelled.{spaced};
-ghost use Rattle.reply_text.specs.Lines.{fault_tokens, step_tokens, why_tokens, cause_tokens, rejected_line, ruling_line, number_ruling_line, malformed_line, limit_line, limit_bytes};
+ghost use Rattle.reply_text.specs.Lines.{fault_tokens, illegal_step_tokens, why_tokens, cause_tokens, rejected_line, ruling_line, number_ruling_line};
+ghost use Rattle.reply_text.specs.Lines.{malformed_line, limit_line, limit_bytes};
 ghost use Rattle.std.specs.List.{flat_map};
 
 use cert_check::{Ruling, Why};
-use evidence_core::{Cause, Ruling as NumberRuling};
+use evidence_core::{Cause, NumberRuling};
 use grid_moves::MoveFault;
 use std::alloc::{AllocError, Global};
 use text_lines::{push_counted, push_number};
@@ -35,7 +36,7 @@ pub fn push_spaced(out: &mut Vec<u8>, words: &[u8], number: u64) -> Result<(), A
 
 /// Appends the first move that is not legal, each token behind a space.
 fn push_step(out: &mut Vec<u8>, place: usize, fault: MoveFault) -> Result<(), AllocError>
-    ensures { OnOk result (out.new.items ≡ out.old.items ++ flat_map spaced (step_tokens place fault)) }
+    ensures { OnOk result (out.new.items ≡ out.old.items ++ flat_map spaced (illegal_step_tokens place fault)) }
 {
     push_spaced(out, b" step ", place as u64)?;
     push_fault(out, fault)
@@ -123,7 +124,7 @@ fn cause_line(alloc: Global, cause: Cause) -> Result<Vec<u8>, AllocError>
 
 /// The line of the first move that is not legal.
 pub fn step_line(alloc: Global, place: usize, fault: MoveFault) -> Result<Vec<u8>, AllocError>
-    ensures { IfOk result (λ v. v.items ≡ rejected_line (step_tokens place fault)) }
+    ensures { IfOk result (λ v. v.items ≡ rejected_line (illegal_step_tokens place fault)) }
 {
     let mut out = Vec::from_slice(alloc, b"rejected")?;
     push_step(&mut out, place, fault)?;

@@ -10,7 +10,7 @@ use Rattle.search_book.specs.declared.event.Event.TheVariants.{Claim, Settle}
 use Rattle.search_book.specs.State.{State}
 use Rattle.search_book.specs.Entries.{StandsAt}
 use Rattle.search_book.specs.Events.{settled_ids}
-use Rattle.search_book.specs.Claim.{Claims}
+use Rattle.search_book.specs.Claim.{ClaimsEntry}
 use Rattle.search_book.specs.Settle.{Taken, Settles, settled_unless_over, taken_all}
 use Rattle.search_book.specs.Machine.{Runs, claimed_ids}
 use Rattle.search_book.proofs.LaterEntries.{later_after}
@@ -41,7 +41,7 @@ not_again (Settle worker settled ∷ events) s t (u, (settlement, run)) id e sta
     let later = later_after s u (Settle worker settled) id e settlement stands in
     not_again events u t run id later.0 later.1.0 (later.1.1.claimed was)
 
-claimed_now : (s t : State) (worker id : ℕ) (claim : Claims s worker id t) → StandsAt t.entries id (record claim.entry { stage = InFlight worker })
+claimed_now : (s t : State) (worker id : ℕ) (claim : ClaimsEntry s worker id t) → StandsAt t.entries id (record claim.entry { stage = InFlight worker })
 claimed_now s t worker id claim =
     let flying : Entry = record claim.entry { stage = InFlight worker } in
     subst (λ (u : State). StandsAt u.entries id flying) (sym claim.after) (set_stands s.entries id claim.entry flying claim.next.stands)

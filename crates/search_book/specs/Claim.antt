@@ -19,7 +19,7 @@ abbrev pub after_claim : State → ℕ → ℕ → Entry → State
 after_claim s worker id e = record s { entries = at_stage s.entries id e (InFlight worker); history = s.history ++ Claim worker ∷ [] }
 
 -- a worker claims the entry with this id
-pub record Claims (s : State) (worker id : ℕ) (t : State) : Type 0 where
+pub record ClaimsEntry (s : State) (worker id : ℕ) (t : State) : Type 0 where
   pub not_over : s.end ≡ None
   pub entry : Entry
   pub next : IsNext s.entries id entry

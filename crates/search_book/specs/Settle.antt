@@ -2,7 +2,7 @@
 use Rattle.std.specs.Prelude.{◌≡◌, ◌++◌, ◌∷◌, [], ℕ, List, Option, Some, None, if◌then◌else◌, fold, length, nat_lt, slice_get}
 use Rattle.std.specs.List.{list_all}
 use Rattle.next_moves.specs.declared.links.Offer.{Offer}
-use Rattle.next_moves.specs.Offers.{IsWhole}
+use Rattle.next_moves.specs.Offers.{IsWholeNeighbourhood}
 use Rattle.search_book.specs.declared.problem.Side.{Side}
 use Rattle.search_book.specs.declared.entry.Entry.{Entry}
 use Rattle.search_book.specs.declared.entry.Origin.TheVariants.{Child}
@@ -82,8 +82,8 @@ after_settling s worker id e offers =
     record s { entries = t.entries; history = s.history ++ Settle worker id ∷ []; end = t.end }
 
 -- the offers are all those of the entry's diagram within the cap
-abbrev pub AreOffersOf : State → Entry → List Offer → Type 0
-AreOffersOf s e offers = IsWhole (record { origin = e.key; cap = s.problem.cap; offers = offers })
+abbrev pub AreAllOffersOf : State → Entry → List Offer → Type 0
+AreAllOffersOf s e offers = IsWholeNeighbourhood (record { origin = e.key; cap = s.problem.cap; offers = offers })
 
 -- a worker settles the entry with this id, which is in flight for it
 pub record Settles (s : State) (worker id : ℕ) (t : State) : Type 0 where
@@ -92,5 +92,5 @@ pub record Settles (s : State) (worker id : ℕ) (t : State) : Type 0 where
   pub stands : StandsAt s.entries id entry
   pub in_flight : entry.stage ≡ InFlight worker
   pub offers : List Offer
-  pub whole : AreOffersOf s entry offers
+  pub whole : AreAllOffersOf s entry offers
   pub after : t ≡ after_settling s worker id entry offers

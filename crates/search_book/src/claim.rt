@@ -3,7 +3,7 @@ ghost use Rattle.std.specs.Prelude.{◌≡◌, ◌<◌, length};
 ghost use Rattle.grid_core.specs.Diagram.{Diagram};
 ghost use Rattle.search_book.specs.Entries.{StandsAt};
 ghost use Rattle.search_book.specs.declared.entry.Entry.{Entry};
-ghost use Rattle.search_book.specs.Sound.{Names};
+ghost use Rattle.search_book.specs.Sound.{NamesDiagram};
 
 use crate::answer::Ticket;
 use crate::entry_list::EntryList;
@@ -12,9 +12,9 @@ use grid_keys::LeastForm;
 /// The ticket of an entry, whose key names a diagram.
 pub fn ticket(entries: &EntryList, id: u32) -> Ticket
     requires inside { id < length entries.now.entries }
-    requires named { (e : Entry) → StandsAt entries.now.entries id e → (d : Diagram) × Names e.key d }
+    requires named { (e : Entry) → StandsAt entries.now.entries id e → (d : Diagram) × NamesDiagram e.key d }
     ensures id { result.id ≡ id }
-    ensures form { (e : Entry) (d : Diagram) → StandsAt entries.now.entries id e → Names e.key d → result.form.grid ≡ d }
+    ensures form { (e : Entry) (d : Diagram) → StandsAt entries.now.entries id e → NamesDiagram e.key d → result.form.grid ≡ d }
     ensures columns { result.form.columns ≡ 0 }
     ensures rows { result.form.rows ≡ 0 }
 {

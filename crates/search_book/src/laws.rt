@@ -14,7 +14,7 @@ ghost use Rattle.search_book.specs.Machine.{After, Runs, claimed_ids};
 ghost use Rattle.search_book.specs.Events.{settled_ids, settlements};
 ghost use Rattle.search_book.specs.Sound.{IsProblem, IsSound, IsLater};
 ghost use Rattle.grid_keys.specs.Key.{size_of};
-ghost use Rattle.search_book.specs.Claim.{Claims};
+ghost use Rattle.search_book.specs.Claim.{ClaimsEntry};
 ghost use Rattle.search_book.specs.Settle.{Settles};
 ghost use Rattle.search_book.specs.Settlement.{IsSettlement};
 ghost use Rattle.search_book.specs.Answers.{AnswersClaim, AnswersSettle};
@@ -52,20 +52,20 @@ pub fn a_claimed_entry_is_never_unclaimed_again()
 /// A claim hands out an unclaimed entry: no unclaimed one is smaller, and of those of its size none has a lower id. The entry is
 /// then in flight for the worker; each other one stands as it stood, and the book is not over.
 pub fn what_a_claim_does()
-    ensures first { (s t : State) (worker id : ℕ) (claim : Claims s worker id t) (i : ℕ) (f : Entry)
+    ensures first { (s t : State) (worker id : ℕ) (claim : ClaimsEntry s worker id t) (i : ℕ) (f : Entry)
         → StandsAt s.entries i f
         → f.stage ≡ Stage.Unclaimed
         → (size_of claim.entry.key ≤ size_of f.key) × (size_of claim.entry.key ≡ size_of f.key → id ≤ i) }
-    ensures was { (s t : State) (worker id : ℕ) (claim : Claims s worker id t)
+    ensures was { (s t : State) (worker id : ℕ) (claim : ClaimsEntry s worker id t)
         → StandsAt s.entries id claim.entry × (claim.entry.stage ≡ Stage.Unclaimed) }
-    ensures is { (s t : State) (worker id : ℕ) (claim : Claims s worker id t)
+    ensures is { (s t : State) (worker id : ℕ) (claim : ClaimsEntry s worker id t)
         → StandsAt t.entries id (record claim.entry { stage = Stage.InFlight worker }) }
     ensures others { (s t : State) (worker id i : ℕ) (f : Entry)
-        → Claims s worker id t
+        → ClaimsEntry s worker id t
         → i ≢ id
         → StandsAt s.entries i f
         → StandsAt t.entries i f }
-    ensures end { (s t : State) (worker id : ℕ) → Claims s worker id t → t.end ≡ None }
+    ensures end { (s t : State) (worker id : ℕ) → ClaimsEntry s worker id t → t.end ≡ None }
 {}
 
 /// What a settlement does, in words (`IsSettlement`): each offer before the one that ends the book has the key of an entry of

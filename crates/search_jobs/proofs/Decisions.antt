@@ -4,7 +4,7 @@ use Rattle.memory_core.specs.declared.out_of_memory.OutOfMemory.{OutOfMemory}
 use Rattle.search_book.specs.declared.problem.Problem.{Problem}
 use Rattle.verdict_core.specs.declared.verdict.Verdict.{Verdict}
 use Rattle.verdict_core.specs.declared.verdict.Verdict.TheVariants.{Equal, Different, UnknownBudget, UnknownExhausted}
-use Rattle.verdict_core.specs.Evidence.{Claims, Holds, HasEvidence}
+use Rattle.verdict_core.specs.Evidence.{Claims, VerdictHolds, HasEvidence}
 use Rattle.quandle_core.specs.Names.{NamedQuandle}
 use Rattle.pair_verdict.specs.declared.decision.Decision.{Decision}
 use Rattle.pair_verdict.specs.Decided.{Decides}
@@ -30,6 +30,6 @@ pub claims_for : (r : Result Decision OutOfMemory) (p q : Problem) → p ≡ q �
     → IfOk r (λ d. Claims q.first q.second d.verdict)
 claims_for r p q problem is = subst (λ (x : Problem). IfOk r (λ d. Claims x.first x.second d.verdict)) problem is
 
-pub holds_for : (r : Result Decision OutOfMemory) (p q : Problem) → p ≡ q → IfOk r (λ d. HasEvidence d.verdict → Holds p.first p.second d.verdict)
-    → IfOk r (λ d. HasEvidence d.verdict → Holds q.first q.second d.verdict)
-holds_for r p q problem is = subst (λ (x : Problem). IfOk r (λ d. HasEvidence d.verdict → Holds x.first x.second d.verdict)) problem is
+pub holds_for : (r : Result Decision OutOfMemory) (p q : Problem) → p ≡ q → IfOk r (λ d. HasEvidence d.verdict → VerdictHolds p.first p.second d.verdict)
+    → IfOk r (λ d. HasEvidence d.verdict → VerdictHolds q.first q.second d.verdict)
+holds_for r p q problem is = subst (λ (x : Problem). IfOk r (λ d. HasEvidence d.verdict → VerdictHolds x.first x.second d.verdict)) problem is

@@ -12,7 +12,7 @@ use Rattle.grid_core.specs.Diagram.{Diagram, IsGrid, size}
 use Rattle.grid_moves.specs.declared.step.Move.{Move}
 use Rattle.grid_moves.specs.declared.step.Move.TheVariants.{ShiftColumns}
 use Rattle.grid_moves.specs.declared.step.MoveFault.{MoveFault}
-use Rattle.grid_moves.specs.MoveFault.{first_fault, shift_fault}
+use Rattle.grid_moves.specs.MoveFault.{first_move_fault, shift_fault}
 use Rattle.grid_moves.specs.Step.{Step}
 use Rattle.grid_moves.specs.SizeAfter.{size_after}
 use Rattle.grid_laws.proofs.Sizes.{step_size}
@@ -20,7 +20,7 @@ use Rattle.next_moves.proofs.Members.{contains_filter, filter_contains, contains
 use Rattle.search_jobs.specs.declared.walk.TheConstants.{LARGEST}
 use Rattle.search_jobs.specs.declared.candidates.Candidate.{Candidate}
 use Rattle.grid_moves.specs.MoveLists.{all_but_slides, column_shift, row_shift, column_exchange, row_exchange, destabilisations, stabilisations}
-use Rattle.search_jobs.specs.Candidates.{is_candidate, candidates}
+use Rattle.search_jobs.specs.Candidates.{is_candidate, candidate_moves}
 use Rattle.search_jobs.specs.Listed.{steps_of}
 use Rattle.search_jobs.specs.Walk.{Picks}
 
@@ -29,18 +29,18 @@ none_both : (fault : Option MoveFault) (b : Bool) → (is_none fault && b) ≡ t
 none_both None b is = (refl, is)
 none_both (Some fault) b is = cc
 
-pub candidate_legal : (d : Diagram) (move : Move) → Contains (candidates d) move → first_fault d move ≡ None
+pub candidate_legal : (d : Diagram) (move : Move) → Contains (candidate_moves d) move → first_move_fault d move ≡ None
 candidate_legal d move c =
-    (none_both (first_fault d move) (nat_le (size_after move (size d)) LARGEST) (filter_contains (is_candidate d) (all_but_slides (size d)) move c).1).0
+    (none_both (first_move_fault d move) (nat_le (size_after move (size d)) LARGEST) (filter_contains (is_candidate d) (all_but_slides (size d)) move c).1).0
 
-pub candidate_fault : (d : Diagram) (move : Move) (fault : MoveFault) → Contains (candidates d) move → Some fault ≡ first_fault d move → ⊥
+pub candidate_fault : (d : Diagram) (move : Move) (fault : MoveFault) → Contains (candidate_moves d) move → Some fault ≡ first_move_fault d move → ⊥
 candidate_fault d move fault c found =
     let none : Some fault ≡ None = found ∙ candidate_legal d move c in
     cc
 
-pub candidate_small : (d : Diagram) (move : Move) (e : Diagram) → Contains (candidates d) move → Step d move e → size e ≤ LARGEST
+pub candidate_small : (d : Diagram) (move : Move) (e : Diagram) → Contains (candidate_moves d) move → Step d move e → size e ≤ LARGEST
 candidate_small d move e c step =
-    let fits = leb-true (size_after move (size d)) LARGEST (none_both (first_fault d move) (nat_le (size_after move (size d)) LARGEST)
+    let fits = leb-true (size_after move (size d)) LARGEST (none_both (first_move_fault d move) (nat_le (size_after move (size d)) LARGEST)
     (filter_contains (is_candidate d) (all_but_slides (size d)) move c).1).1 in
     omega (arith, fits, step_size move d e step)
 
@@ -70,15 +70,15 @@ shift_is_candidate d least most = by (size d) least most
     by : (n : ℕ) → 2 ≤ n → n ≤ LARGEST → (is_none (shift_fault n 1) && nat_le n LARGEST) ≡ true
     by n lo hi = grind (arith, nat_tests)
 
-pub a_candidate : (d : Diagram) → IsGrid d → size d ≤ LARGEST → Contains (candidates d) (ShiftColumns 1)
+pub a_candidate : (d : Diagram) → IsGrid d → size d ≤ LARGEST → Contains (candidate_moves d) (ShiftColumns 1)
 a_candidate d grid most =
     contains_filter (is_candidate d) (all_but_slides (size d)) (ShiftColumns 1) (tried_first (size d) grid.least) (shift_is_candidate d grid.least most)
 
-pub some_candidates : (d : Diagram) → IsGrid d → size d ≤ LARGEST → 0 < length (candidates d)
+pub some_candidates : (d : Diagram) → IsGrid d → size d ≤ LARGEST → 0 < length (candidate_moves d)
 some_candidates d grid most = let c = a_candidate d grid most in omega (arith, c.1)
 
 -- what is listed is picked
-pub listed_length : (d : Diagram) (list : List Candidate) → steps_of list ≡ candidates d → length list ≡ length (candidates d)
+pub listed_length : (d : Diagram) (list : List Candidate) → steps_of list ≡ candidate_moves d → length list ≡ length (candidate_moves d)
 listed_length d list is = sym (length-map list (λ (c : Candidate). c.step)) ∙ ap length is
 
 picked_at : (list : List Candidate) (moves : List Move) (i : ℕ) (blank : Candidate) → steps_of list ≡ moves → i < length list
@@ -87,12 +87,12 @@ picked_at list moves i blank is lt =
     ap (λ xs. slice_get xs i) (sym is) ∙ slice_get-map (λ (c : Candidate). c.step) list i
     ∙ ap (λ o. option_map (λ (c : Candidate). c.step) o) (slice_get-get_or list i blank lt)
 
-pub picked_from : (d : Diagram) (w n i : ℕ) (list : List Candidate) (blank : Candidate) → steps_of list ≡ candidates d → n ≡ length list → i ≡ w % n
+pub picked_from : (d : Diagram) (w n i : ℕ) (list : List Candidate) (blank : Candidate) → steps_of list ≡ candidate_moves d → n ≡ length list → i ≡ w % n
     → i < n → Picks d w (get_or list i blank).step
 picked_from d w n i list blank is count place lt =
-    let whole : n ≡ length (candidates d) = count ∙ listed_length d list is in
-    ap (λ (k : ℕ). slice_get (candidates d) k) (ap (λ (k : ℕ). w % k) (sym whole) ∙ sym place)
-    ∙ picked_at list (candidates d) i blank is (omega (arith, lt, count))
+    let whole : n ≡ length (candidate_moves d) = count ∙ listed_length d list is in
+    ap (λ (k : ℕ). slice_get (candidate_moves d) k) (ap (λ (k : ℕ). w % k) (sym whole) ∙ sym place)
+    ∙ picked_at list (candidate_moves d) i blank is (omega (arith, lt, count))
 
 -- what is picked is a candidate
 get_contains : (xs : List Move) (i : ℕ) (x : Move) → slice_get xs i ≡ Some x → Contains xs x
@@ -100,5 +100,5 @@ get_contains [] i x is = cc
 get_contains (y ∷ ys) zero x is = (0, omega arith, cc)
 get_contains (y ∷ ys) (suc i) x is = let c = get_contains ys i x is in (suc c.0, omega (arith, c.1), c.2)
 
-pub pick_contained : (d : Diagram) (w : ℕ) (move : Move) → Picks d w move → Contains (candidates d) move
-pick_contained d w move picks = get_contains (candidates d) (w % length (candidates d)) move picks
+pub pick_contained : (d : Diagram) (w : ℕ) (move : Move) → Picks d w move → Contains (candidate_moves d) move
+pick_contained d w move picks = get_contains (candidate_moves d) (w % length (candidate_moves d)) move picks

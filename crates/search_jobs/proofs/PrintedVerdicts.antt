@@ -8,7 +8,7 @@ use Rattle.colour_list.specs.Listing.{lists_of}
 use Rattle.quandle_core.specs.Names.{NamedQuandle}
 use Rattle.verdict_core.specs.declared.verdict.Verdict.{Verdict}
 use Rattle.verdict_core.specs.declared.verdict.Verdict.TheVariants.{Equal, Different, UnknownBudget, UnknownExhausted}
-use Rattle.verdict_core.specs.Evidence.{Holds, TellsApart}
+use Rattle.verdict_core.specs.Evidence.{VerdictHolds, TellsApart}
 use Rattle.verdict_text.specs.declared.verdicts.Version.TheVariants.{Tidy}
 use Rattle.knot_text.specs.Printed.{HasQuandleText, HasVerdictText, HasVersionText}
 use Rattle.search_book.specs.declared.problem.TheConstants.{MAX_BUDGET}
@@ -30,7 +30,7 @@ different_text : FewColourings → (d e : Diagram) (q : NamedQuandle) (v : Verdi
     → separates d e q.table ≡ true → IsDifferentBy d e q v
     → HasVerdictText (size d) (size e) v
 different_text few d e q v first second named is lists =
-    let told : TellsApart q.table d e (lists_of lists.one) (lists_of lists.two) = subst (Holds d e) lists.verdict (holds_by d e q v is lists) in
+    let told : TellsApart q.table d e (lists_of lists.one) (lists_of lists.two) = subst (VerdictHolds d e) lists.verdict (holds_by d e q v is lists) in
     subst (HasVerdictText (size d) (size e)) (sym lists.verdict) (told_text few d e q lists.one lists.two first second named told)
 
 -- of a search

@@ -5,7 +5,7 @@ use Rattle.grid_core.specs.Diagram.{IsGrid, size}
 use Rattle.verdict_core.specs.declared.problem.ProblemText.{ProblemText}
 use Rattle.verdict_core.specs.declared.verdict.Verdict.{Verdict}
 use Rattle.quandle_core.specs.Names.{NamedQuandle}
-use Rattle.verdict_core.specs.Diagrams.{grid_of, columns}
+use Rattle.verdict_core.specs.Diagrams.{grid_of, column_count}
 use Rattle.verdict_text.specs.declared.verdicts.Version.TheVariants.{Tidy}
 use Rattle.knot_text.specs.Printed.{HasQuandleText, HasVersionText}
 use Rattle.verdict_text.specs.Problems.{problem_of}
@@ -26,7 +26,7 @@ HaveTexts = (p : Problem) (quandles : List NamedQuandle) (workers : ℕ) (v : Ve
 pub has_text : HaveTexts → (bytes : List ℕ) (asked : Asked) (input : ProblemText) (workers : ℕ) (v : Verdict) (kept : Option Finding)
     → problem_of bytes ≡ Ok input
     → Decides (problem_for asked (grid_of input.first) (grid_of input.second)) input.quandles workers v kept
-    → HasFewMoves v → HasVersionText Tidy (columns input.first) (columns input.second) v
+    → HasFewMoves v → HasVersionText Tidy (column_count input.first) (column_count input.second) v
 has_text texts bytes asked input workers v kept read decides short =
     let p = problem_for asked (grid_of input.first) (grid_of input.second) in
     let grids = grids_of_problem bytes input read in

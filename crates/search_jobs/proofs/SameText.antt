@@ -14,7 +14,7 @@ use Rattle.colour_list.specs.Listing.{colourings}
 use Rattle.colour_laws.proofs.Counted.{equivalent_lengths}
 use Rattle.search_jobs.specs.declared.walk.TheConstants.{TURNS, LARGEST}
 use Rattle.grid_core.specs.Trefoils.{right_trefoil}
-use Rattle.search_jobs.specs.Walk.{words, generator_of, Walks}
+use Rattle.search_jobs.specs.Walk.{seed_words, generator_of, Walks}
 use Rattle.search_jobs.specs.Text.{counts_text, walk_text, sample_text, TellsOfWalk}
 use Rattle.search_jobs.proofs.Walked.{walk_length, walk_within, words_length}
 use Rattle.search_jobs.proofs.Printed.{pair, counts, seed_line, walk_pieces, counts_by_name}
@@ -90,12 +90,12 @@ equivalent_text seed moves d e count equivalent one two three four five =
     (counts_of_ends d e (dihedral 5) 5 (dihedral_is 5 (omega arith)) equivalent four)
     (counts_of_ends d e (dihedral 7) 7 (dihedral_is 7 (omega arith)) equivalent five))
 
-pub same_text : (seed : ℕ) (moves : List Move) (last : Diagram) → Walks right_trefoil (words seed) moves last
+pub same_text : (seed : ℕ) (moves : List Move) (last : Diagram) → Walks right_trefoil (seed_words seed) moves last
     → walk_text seed moves right_trefoil last ≡ sample_text seed
 same_text seed moves last walk =
     let joined : Joins right_trefoil moves last =
-    within_joins LARGEST moves right_trefoil last (walk_within (words seed) moves right_trefoil last (omega arith) walk) in
-    equivalent_text seed moves right_trefoil last (walk_length (words seed) moves right_trefoil last walk ∙ words_length TURNS (generator_of seed))
+    within_joins LARGEST moves right_trefoil last (walk_within (seed_words seed) moves right_trefoil last (omega arith) walk) in
+    equivalent_text seed moves right_trefoil last (walk_length (seed_words seed) moves right_trefoil last walk ∙ words_length TURNS (generator_of seed))
     (moves, joined) by_trivial_2 by_dihedral_3 by_tetrahedral by_dihedral_5 by_dihedral_7
 
 pub told_same : (seed : ℕ) (text : List ℕ) → TellsOfWalk seed text → text ≡ sample_text seed
@@ -103,26 +103,26 @@ told_same seed text t = t.told ∙ same_text seed t.moves t.last t.walk
 
 -- what is known where the moves of a walk were made from the right trefoil
 pub record Found (seed : ℕ) (moves : List Move) (last : Diagram) : Type 0 where
-  pub walk : Walks right_trefoil (words seed) moves last
+  pub walk : Walks right_trefoil (seed_words seed) moves last
   pub joined : Joins right_trefoil moves last
   pub small : size last ≤ LARGEST
 
 pub walk_found : (seed : ℕ) (moves made : List Move) (first last : Diagram)
-    → (e : Diagram) × (Walks right_trefoil (words seed) moves e × JoinsWithin LARGEST right_trefoil moves e) → first ≡ right_trefoil → made ≡ moves
+    → (e : Diagram) × (Walks right_trefoil (seed_words seed) moves e × JoinsWithin LARGEST right_trefoil moves e) → first ≡ right_trefoil → made ≡ moves
     → Joins first made last → Found seed moves last
 walk_found seed moves made first last known start same joined =
     let joins : Joins right_trefoil moves last =
     subst (λ (d : Diagram). Joins d moves last) start (subst (λ (ms : List Move). Joins first ms last) same joined) in
     let end : known.0 ≡ last = joins_once moves right_trefoil known.0 last (within_joins LARGEST moves right_trefoil known.0 known.1.1) joins in
     record {
-      walk = subst (λ (d : Diagram). Walks right_trefoil (words seed) moves d) end known.1.0;
+      walk = subst (λ (d : Diagram). Walks right_trefoil (seed_words seed) moves d) end known.1.0;
       joined = joins;
       small = subst (λ (d : Diagram). size d ≤ LARGEST) end (within_end LARGEST moves right_trefoil known.0 known.1.1);
     }
 
 -- they do not stop
 pub walk_goes_on : (seed : ℕ) (moves made : List Move) (first : Diagram) (place : ℕ) (fault : MoveFault)
-    → (e : Diagram) × (Walks right_trefoil (words seed) moves e × JoinsWithin LARGEST right_trefoil moves e) → first ≡ right_trefoil → made ≡ moves
+    → (e : Diagram) × (Walks right_trefoil (seed_words seed) moves e × JoinsWithin LARGEST right_trefoil moves e) → first ≡ right_trefoil → made ≡ moves
     → StopsAt first made place fault → ⊥
 walk_goes_on seed moves made first place fault known start same stops =
     not_both moves right_trefoil known.0 place fault

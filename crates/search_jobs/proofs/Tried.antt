@@ -15,7 +15,7 @@ use Rattle.grid_moves.specs.declared.step.Move.TheVariants.{ShiftColumns, ShiftR
 use Rattle.grid_moves.specs.declared.step.Move.TheVariants.{Stabilise, Destabilise}
 use Rattle.grid_moves.specs.declared.step.MoveFault.{MoveFault}
 use Rattle.grid_moves.specs.declared.step.MoveFault.TheVariants.{Range}
-use Rattle.grid_moves.specs.MoveFault.{first_fault, shift_fault}
+use Rattle.grid_moves.specs.MoveFault.{first_move_fault, shift_fault}
 use Rattle.grid_moves.specs.Step.{Step}
 use Rattle.grid_moves.proofs.OneResult.{step_exists, step_legal}
 use Rattle.grid_keys.proofs.LeastTranslates.{map_contains, flat_map_contains, range_contains}
@@ -28,7 +28,7 @@ use Rattle.search_jobs.specs.declared.walk.TheConstants.{LARGEST}
 use Rattle.grid_moves.specs.Kinds.{is_slide}
 use Rattle.grid_moves.specs.MoveLists.{all_but_slides, column_shift, row_shift, column_exchange, row_exchange, destabilisation}
 use Rattle.grid_moves.specs.MoveLists.{destabilisations, stabilisation, stabilisations}
-use Rattle.search_jobs.specs.Candidates.{is_candidate, candidates}
+use Rattle.search_jobs.specs.Candidates.{is_candidate, candidate_moves}
 use Rattle.search_jobs.proofs.Picked.{candidate_legal, candidate_small}
 
 range_contains_from : (a n k : ℕ) → a ≤ k → k < a + n → Contains (range_with_len a n) k
@@ -121,7 +121,7 @@ module _ (n : ℕ) where
       of_kind Ring = Contains-append_right (map (stabilisation c Cross) corners) (map (stabilisation c Ring) corners) (Stabilise c Ring corner)
           (map_contains (stabilisation c Ring) corners corner (corner_listed corner))
 
-legal_tried : (d : Diagram) (move : Move) → is_slide move ≡ false → first_fault d move ≡ None → Contains (all_but_slides (size d)) move
+legal_tried : (d : Diagram) (move : Move) → is_slide move ≡ false → first_move_fault d move ≡ None → Contains (all_but_slides (size d)) move
 legal_tried d (ShiftColumns k) six legal = let inside = between k (size d) legal in tried_column_shift (size d) k inside.0 inside.1
 legal_tried d (ShiftRows k) six legal = let inside = between k (size d) legal in tried_row_shift (size d) k inside.0 inside.1
 legal_tried d (ExchangeColumns c) six legal = tried_column_exchange (size d) c (ltb-true (c + 1) (size d) (passed_test (nat_lt (c + 1) (size d)) _ legal))
@@ -133,7 +133,7 @@ legal_tried d (Destabilise c r) six legal =
     let inside = and_parts (nat_lt (c + 1) (size d)) (nat_lt (r + 1) (size d)) (passed_test (nat_lt (c + 1) (size d) && nat_lt (r + 1) (size d)) _ legal) in
     tried_block (size d) c r (ltb-true (c + 1) (size d) inside.0) (ltb-true (r + 1) (size d) inside.1)
 
-small_candidate : (d : Diagram) (move : Move) (e : Diagram) → is_slide move ≡ false → Step d move e → size e ≤ LARGEST → Contains (candidates d) move
+small_candidate : (d : Diagram) (move : Move) (e : Diagram) → is_slide move ≡ false → Step d move e → size e ≤ LARGEST → Contains (candidate_moves d) move
 small_candidate d move e six step small =
     let legal = step_legal d move e step in
     let fits : nat_le (size_after move (size d)) LARGEST ≡ true = le-leb (size_after move (size d)) LARGEST (omega (arith, small, step_size move d e step)) in
@@ -167,12 +167,12 @@ slides_are_left_out n =
     All-append IsNoSlide (map (stabilisation c Cross) corners) (map (stabilisation c Ring) corners)
     (all_mapped (stabilisation c Cross) corners (λ corner. refl)) (all_mapped (stabilisation c Ring) corners (λ corner. refl))))
 
-no_slide : (d : Diagram) (move : Move) → Contains (candidates d) move → is_slide move ≡ false
+no_slide : (d : Diagram) (move : Move) → Contains (candidate_moves d) move → is_slide move ≡ false
 no_slide d move among = All-contains IsNoSlide (all_but_slides (size d)) move (slides_are_left_out (size d))
     (filter_contains (is_candidate d) (all_but_slides (size d)) move among).0
 
 pub candidates_are : (d : Diagram) (move : Move) → IsGrid d
-    → Contains (candidates d) move ↔ ((is_slide move ≡ false) × ((e : Diagram) × (Step d move e × (size e ≤ LARGEST))))
+    → Contains (candidate_moves d) move ↔ ((is_slide move ≡ false) × ((e : Diagram) × (Step d move e × (size e ≤ LARGEST))))
 candidates_are d move grid = (
   λ among. (let made = step_exists d move grid (candidate_legal d move among) in
       (no_slide d move among, (made.0, (made.1, candidate_small d move made.0 among made.1)))),

@@ -11,31 +11,31 @@ use Rattle.grid_moves.specs.Step.{Step}
 use Rattle.grid_moves.specs.Joining.{JoinsWithin}
 use Rattle.grid_moves.proofs.OneResult.{step_exists, step_once}
 use Rattle.search_jobs.specs.declared.walk.TheConstants.{LARGEST}
-use Rattle.search_jobs.specs.Candidates.{candidates}
-use Rattle.search_jobs.specs.Walk.{words_of, Picks, Walks}
+use Rattle.search_jobs.specs.Candidates.{candidate_moves}
+use Rattle.search_jobs.specs.Walk.{generator_words, Picks, Walks}
 use Rattle.search_jobs.proofs.Picked.{candidate_legal, candidate_small, pick_contained, some_candidates}
 
 -- the words of a generator, one by one
-next_words : (k : ℕ) (g : Lcg) (w : ℕ) (next : Lcg) → (w, next) ≡ pcg32 g → words_of (suc k) g ≡ w ∷ words_of k next
-unfolding words_of
-next_words k g w next is = ap (λ (p : ℕ × Lcg). p.0 ∷ words_of k p.1) (sym is)
+next_words : (k : ℕ) (g : Lcg) (w : ℕ) (next : Lcg) → (w, next) ≡ pcg32 g → generator_words (suc k) g ≡ w ∷ generator_words k next
+unfolding generator_words
+next_words k g w next is = ap (λ (p : ℕ × Lcg). p.0 ∷ generator_words k p.1) (sym is)
 
-pub words_left : (n i : ℕ) (g : Lcg) (w : ℕ) (next : Lcg) → i < n → (w, next) ≡ pcg32 g → words_of (n - i) g ≡ w ∷ words_of (n - (i + 1)) next
+pub words_left : (n i : ℕ) (g : Lcg) (w : ℕ) (next : Lcg) → i < n → (w, next) ≡ pcg32 g → generator_words (n - i) g ≡ w ∷ generator_words (n - (i + 1)) next
 words_left n i g w next lt is =
     let more : n - i ≡ suc (n - (i + 1)) = omega (arith, lt) in
-    ap (λ (k : ℕ). words_of k g) more ∙ next_words (n - (i + 1)) g w next is
+    ap (λ (k : ℕ). generator_words k g) more ∙ next_words (n - (i + 1)) g w next is
 
-no_words : (g : Lcg) → words_of 0 g ≡ []
-unfolding words_of
+no_words : (g : Lcg) → generator_words 0 g ≡ []
+unfolding generator_words
 no_words g = refl
 
-pub no_words_left : (n i : ℕ) (g : Lcg) → n ≤ i → words_of (n - i) g ≡ []
+pub no_words_left : (n i : ℕ) (g : Lcg) → n ≤ i → generator_words (n - i) g ≡ []
 no_words_left n i g le =
     let none : n - i ≡ 0 = omega (arith, le) in
-    ap (λ (k : ℕ). words_of k g) none ∙ no_words g
+    ap (λ (k : ℕ). generator_words k g) none ∙ no_words g
 
-pub words_length : (n : ℕ) (g : Lcg) → length (words_of n g) ≡ n
-unfolding words_of
+pub words_length : (n : ℕ) (g : Lcg) → length (generator_words n g) ≡ n
+unfolding generator_words
 words_length zero g = refl
 words_length (suc n) g = ap suc (words_length n (pcg32 g).1)
 
@@ -68,8 +68,11 @@ walk_within (w ∷ ws) (move ∷ moves) d e small walk =
 some_pick : (d : Diagram) (w : ℕ) → IsGrid d → size d ≤ LARGEST → (move : Move) × Picks d w move
 some_pick d w grid small =
     let some = some_candidates d grid small in
-    let below : w % length (candidates d) < length (candidates d) = omega (arith, some) in
-    (get_or (candidates d) (w % length (candidates d)) (ShiftColumns 1), slice_get-get_or (candidates d) (w % length (candidates d)) (ShiftColumns 1) below)
+    let below : w % length (candidate_moves d) < length (candidate_moves d) = omega (arith, some) in (
+      get_or (candidate_moves d) (w % length (candidate_moves d)) (ShiftColumns 1),
+      slice_get-get_or (candidate_moves d) (w % length (candidate_moves d))
+          (ShiftColumns 1) below,
+    )
 
 -- each list of words has a walk, and no two
 pub some_walk : (ws : List ℕ) (d : Diagram) → IsGrid d → size d ≤ LARGEST → (moves : List Move) × ((e : Diagram) × Walks d ws moves e)

@@ -10,9 +10,9 @@ use Rattle.text_items.specs.Quandles.{built_in}
 use Rattle.knot_text.specs.Printed.{name_tokens}
 use Rattle.verdict_core.specs.declared.verdict.Verdict.TheVariants.{Equal}
 use Rattle.cert_check.specs.declared.ruling.Ruling.TheVariants.{Accepted}
-use Rattle.cert_check.specs.Ruling.{RulesOn}
+use Rattle.cert_check.specs.Ruling.{RulesOnVerdict}
 use Rattle.grid_core.specs.Trefoils.{right_trefoil}
-use Rattle.search_jobs.specs.Walk.{words, Walks}
+use Rattle.search_jobs.specs.Walk.{seed_words, Walks}
 
 -- the name of a quandle with a colon, and how many colourings d and e have by it
 abbrev pub counts_tokens : Diagram → Diagram → NamedQuandle → List (List ℕ)
@@ -32,8 +32,8 @@ walk_text seed moves d e =
 pub record TellsOfWalk (seed : ℕ) (text : List ℕ) : Type 0 where
   pub moves : List Move
   pub last : Diagram
-  pub walk : Walks right_trefoil (words seed) moves last
-  pub ruling : RulesOn right_trefoil last (Equal moves) Accepted
+  pub walk : Walks right_trefoil (seed_words seed) moves last
+  pub ruling : RulesOnVerdict right_trefoil last (Equal moves) Accepted
   pub told : text ≡ walk_text seed moves right_trefoil last
 
 -- what is told is the same of each seed, but for the seed

@@ -6,7 +6,7 @@ ghost use Rattle.grid_core.specs.Corners.{corners};
 ghost use Rattle.search_jobs.specs.declared.walk.TheConstants.{LARGEST};
 ghost use Rattle.search_jobs.specs.declared.candidates.TheConstants.{MOST_TRIES};
 ghost use Rattle.grid_moves.specs.MoveLists.{column_shift, row_shift, column_exchange, row_exchange, destabilisation, destabilisations, stabilisation, stabilisations};
-ghost use Rattle.search_jobs.specs.Candidates.{is_candidate, candidates};
+ghost use Rattle.search_jobs.specs.Candidates.{is_candidate, candidate_moves};
 ghost use Rattle.search_jobs.specs.Listed.{Adds, steps_of};
 
 use crate::walk::LARGEST;
@@ -45,7 +45,7 @@ pub(crate) type CandidateList = ArrayVec<Candidate, MOST_TRIES>;
 /// The candidates on a grid, in order.
 pub(crate) fn candidates(grid: &Grid) -> CandidateList
     requires { size grid.now ≤ LARGEST }
-    ensures { steps_of result.items ≡ candidates grid.now }
+    ensures { steps_of result.items ≡ candidate_moves grid.now }
 {
     let _size = grid.size();
     let mut list = ArrayVec::new();

@@ -1,7 +1,7 @@
 //! The job `decide`: the verdict on two diagrams.
 ghost use Rattle.std.specs.Prelude.{◌≡◌, ℕ, List, Ok, IfOk};
 ghost use Rattle.verdict_core.specs.Diagrams.{grid_of};
-ghost use Rattle.verdict_core.specs.Evidence.{Claims, Holds, HasEvidence, IsTidyVerdict};
+ghost use Rattle.verdict_core.specs.Evidence.{Claims, VerdictHolds, HasEvidence, IsTidyVerdict};
 ghost use Rattle.pair_verdict.specs.Decided.{Decides};
 ghost use Rattle.verdict_text.specs.Problems.{problem_of};
 ghost use Rattle.knot_words.specs.Words.{IsWithinBounds};
@@ -74,7 +74,7 @@ fn answer_decision(
     requires decides { IfOk decision (λ d. Decides (problem_for asked.now (grid_of input.now.first) (grid_of input.now.second))
         input.now.quandles asked.now.workers d.verdict d.kept) }
     requires claims { IfOk decision (λ d. Claims (grid_of input.now.first) (grid_of input.now.second) d.verdict) }
-    requires holds { IfOk decision (λ d. HasEvidence d.verdict → Holds (grid_of input.now.first) (grid_of input.now.second) d.verdict) }
+    requires holds { IfOk decision (λ d. HasEvidence d.verdict → VerdictHolds (grid_of input.now.first) (grid_of input.now.second) d.verdict) }
     requires tidy { IfOk decision (λ d. IsTidyVerdict d.verdict) }
     ensures answer { IfOk result (λ reply. AnswersDecide asked.now input.now reply) }
     ensures claim { (bytes : List ℕ) → problem_of bytes ≡ Ok input.now → IfOk result (λ reply. IsDecisionIfDone bytes reply) }

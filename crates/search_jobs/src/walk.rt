@@ -4,9 +4,9 @@ ghost use Rattle.grid_core.specs.Diagram.{Diagram, size};
 ghost use Rattle.grid_moves.specs.Step.{Step};
 ghost use Rattle.grid_moves.specs.Joining.{JoinsWithin};
 ghost use Rattle.std.specs.List.{Contains};
-ghost use Rattle.search_jobs.specs.Candidates.{candidates};
+ghost use Rattle.search_jobs.specs.Candidates.{candidate_moves};
 ghost use Rattle.grid_core.specs.Trefoils.{right_trefoil};
-ghost use Rattle.search_jobs.specs.Walk.{words, Picks, Walks};
+ghost use Rattle.search_jobs.specs.Walk.{seed_words, Picks, Walks};
 
 use crate::candidates::candidates;
 use grid_core::Grid;
@@ -33,7 +33,7 @@ pub const STREAM: u64 = 54;
 /// destabilisations by column and row; stabilisations by column, kind (X, O) and corner (low left, low right, high left,
 /// high right).
 pub fn sample_walk(alloc: Global, seed: u64) -> Result<Vec<Move>, OutOfMemory>
-    ensures walk { IfOk result (λ v. (last : Diagram) × (Walks right_trefoil (words seed) v.items last × JoinsWithin LARGEST right_trefoil v.items last)) }
+    ensures walk { IfOk result (λ v. (last : Diagram) × (Walks right_trefoil (seed_words seed) v.items last × JoinsWithin LARGEST right_trefoil v.items last)) }
     ensures count { IfOk result (λ v. length v.items ≡ TURNS) }
 {
     let mut moves = Vec::with_capacity(alloc, TURNS)?;
@@ -60,7 +60,7 @@ fn picked(grid: &Grid, word: u32) -> Move
 
 /// The grid after a candidate.
 fn moved(grid: &Grid, step: Move) -> Grid
-    requires { Contains (candidates grid.now) step }
+    requires { Contains (candidate_moves grid.now) step }
     ensures moved { Step grid.now step result }
     ensures small { size result ≤ LARGEST }
 {

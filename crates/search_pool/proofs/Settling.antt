@@ -18,14 +18,14 @@ use Rattle.search_book.specs.declared.entry.Stage.TheVariants as stage
 use Rattle.search_book.specs.declared.event.Event.TheVariants.{Claim, Settle}
 use Rattle.search_book.specs.State.{State}
 use Rattle.search_book.specs.Begin.{Begins, opened}
-use Rattle.search_book.specs.Claim.{Claims}
+use Rattle.search_book.specs.Claim.{ClaimsEntry}
 use Rattle.search_book.specs.Entries.{keys}
 use Rattle.search_book.specs.Sound.{IsSound}
 use Rattle.search_book.specs.Answers.{AnswersSettle, IsTicket, IsDone, held_at, held_entry, asked_by}
 use Rattle.search_book.proofs.Restaged.{set_stands}
 use Rattle.search_book.proofs.Recorded.{settled_history, settled_problem}
 
-module _ (s t u : State) (worker : ℕ) (ticket : Ticket) (offers : Neighbourhood) (claims : Claims s worker ticket.id t)
+module _ (s t u : State) (worker : ℕ) (ticket : Ticket) (offers : Neighbourhood) (claims : ClaimsEntry s worker ticket.id t)
     (is_ticket : IsTicket s ticket) (origin : offers.origin ≡ key_of ticket.form.grid) (cap : offers.cap ≡ s.problem.cap) where
   -- the entry of the ticket is in flight for the worker, with the key of the offers
   held_now : held_at t ticket.id ≡ Some (asked_by worker offers)

@@ -5,7 +5,7 @@ use Rattle.grid_core.specs.Diagram.{size}
 use Rattle.grid_keys.specs.CanonicalForm.{IsCanonical}
 use Rattle.next_moves.specs.Offers.{Neighbourhood}
 use Rattle.search_book.specs.State.{State}
-use Rattle.search_book.specs.Claim.{Claims}
+use Rattle.search_book.specs.Claim.{ClaimsEntry}
 use Rattle.search_book.specs.declared.answer.Settled.{Settled}
 use Rattle.search_book.specs.declared.answer.Settled.TheVariants.{Done, Late, Stranger}
 use Rattle.search_book.specs.Answers.{IsAllClaimed, IsTicket, AnswersSettle}
@@ -21,7 +21,7 @@ pub record AllowsOffers (task : Task) : Type 0 where
 
 -- the task is the entry that the worker claimed in the state s, with its diagram and the cap of the book
 pub record IsTaskOf (s : State) (worker : ℕ) (task : Task) (t : State) : Type 0 where
-  pub claims : Claims s worker task.id t
+  pub claims : ClaimsEntry s worker task.id t
   pub ticket : IsTicket s (record { id = task.id; form = task.form })
   pub cap : task.cap ≡ s.problem.cap
 
@@ -32,13 +32,13 @@ IsHanded s worker Later t = IsAllClaimed s × (t ≡ s)
 IsHanded s worker Over t = (s.end ≢ None) × (t ≡ s)
 
 -- how many settlements a seat counts for this answer
-abbrev pub counted : Settled → ℕ
-counted Done = 1
-counted Late = 0
-counted (Stranger asked kept) = 0
+abbrev pub settlements_of : Settled → ℕ
+settlements_of Done = 1
+settlements_of Late = 0
+settlements_of (Stranger asked kept) = 0
 
 -- the book answers a settlement, and the seat counts one more where its offers were taken and none else
 pub record Counts (s : State) (worker id : ℕ) (offers : Neighbourhood) (t : State) (before after : ℕ) : Type 0 where
   pub answer : Settled
   pub answers : AnswersSettle s worker id offers answer t
-  pub counts : after ≡ before + counted answer
+  pub counts : after ≡ before + settlements_of answer

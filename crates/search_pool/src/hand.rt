@@ -10,12 +10,12 @@ use std::marker::Model;
 /// A place for one task that a worker has in hand, and for its offers. A list of offers stays for the next task, which renews it.
 /// Contracts see the task.
 #[derive(Drop)]
-pub struct Place {
+pub struct TaskPlace {
     task: Option<Task>,
     offers: Option<Offers>,
 }
 
-impl Model for Place {
+impl Model for TaskPlace {
     ghost use Rattle.std.specs.Prelude.{Option, IfSome};
     ghost use Rattle.search_pool.specs.declared.locked.Task.{Task};
     ghost use Rattle.search_pool.specs.Task.{AllowsOffers};
@@ -27,12 +27,12 @@ impl Model for Place {
     ghost invariant = { λ p. IfSome p.task AllowsOffers };
 }
 
-impl Place {
+impl TaskPlace {
     /// A place without a task.
-    pub fn empty() -> Place
+    pub fn empty() -> TaskPlace
         ensures { result ≡ None }
     {
-        Place {
+        TaskPlace {
             task: None,
             offers: None,
         }
@@ -50,7 +50,7 @@ impl Place {
     pub fn find_offers<G: Gate>(&mut self, worker: u32, gate: &G)
         ensures { self.new ≡ self.old }
     {
-        let Place { task, offers } = self;
+        let TaskPlace { task, offers } = self;
         let Some(task) = task else {
             return;
         };
@@ -81,8 +81,8 @@ impl Place {
 /// plenty.
 #[derive(Drop)]
 pub struct Hand {
-    pub first: Place,
-    pub others: [Place; 3],
+    pub first: TaskPlace,
+    pub others: [TaskPlace; 3],
 }
 
 impl Hand {
@@ -92,8 +92,8 @@ impl Hand {
         ensures others { All (λ p. p ≡ None) result.others }
     {
         Hand {
-            first: Place::empty(),
-            others: [Place::empty(), Place::empty(), Place::empty()],
+            first: TaskPlace::empty(),
+            others: [TaskPlace::empty(), TaskPlace::empty(), TaskPlace::empty()],
         }
     }
 

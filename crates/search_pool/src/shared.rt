@@ -6,7 +6,7 @@ ghost use Rattle.search_pool.specs.Seats.{SeatState, fresh_seats, all_made, how_
 ghost use Rattle.search_pool.specs.Task.{AllowsOffers};
 
 use crate::gate::Gate;
-use crate::hand::{Hand, Place};
+use crate::hand::{Hand, TaskPlace};
 use crate::holding::BookLock;
 use crate::locked::{Handed, Locked, Task, Waking};
 use crate::seat::Seat;
@@ -124,7 +124,7 @@ impl<L: Ledger, M: Ledger, K: OfProblem> SharedBook<L, M, K> {
     }
 
     /// Settles the task of a place, where there is one, and takes it away.
-    fn settle_place<R: Wait>(&self, rt: &R, seat: &mut Seat<L, M>, place: &mut Place)
+    fn settle_place<R: Wait>(&self, rt: &R, seat: &mut Seat<L, M>, place: &mut TaskPlace)
         ensures worker { seat.new.worker ≡ seat.old.worker }
         ensures made { seat.old.made ≤ seat.new.made }
     {

@@ -8,7 +8,7 @@ use Rattle.clap.specs.declared.error.kind.ErrorKind.TheVariants as kind
 use Rattle.knot_ports.specs.declared.status.Status.{Status}
 use Rattle.knot_ports.specs.declared.status.Status.TheVariants as status
 use Rattle.knot_ports.specs.Status.{status_number}
-use Rattle.seek_words.specs.Words.{IsShown, Asks, AsksNothing, AskForText}
+use Rattle.seek_words.specs.Words.{IsHelpOrVersion, AsksOfSeek, AsksNothingOfSeek, AskForText}
 use Rattle.seek_words.specs.declared.asked.Asked.{Asked}
 use Rattle.seek_parts.specs.Parts.{Told, ArePartsOf, all_due}
 use Rattle.seek_parts.proofs.NeverDone.{never_done, text_never_done}
@@ -20,8 +20,8 @@ use Rattle.seek.specs.Failure.{failure_status}
 use Rattle.seek.specs.Blocks.{AreBlocksOf}
 use Rattle.seek.specs.Inputs.{IsPartsFailure, IsInputsFailure}
 use Rattle.seek.specs.declared.outlets.Outlets.{Outlets}
-use Rattle.seek.specs.Exit.{Outside, outside_of, FilesTold, IsUntouched, IsSought, EndsUnread, EndsBy, IsShownTo, EndsRefused, EndsCall}
-use Rattle.seek.specs.Exit.{IsWrittenTo, IsAnswered}
+use Rattle.seek.specs.SeekExit.{Outside, outside_of, FilesTold, IsOutsideUntouched, IsSought, EndsUnread, EndsBy, IsShownTo, EndsRefused, EndsCall}
+use Rattle.seek.specs.SeekExit.{IsWrittenTo, IsAnsweredByDecision}
 use Rattle.seek.proofs.Found.{kept, written_where_done}
 
 -- only Done has the number 0
@@ -57,7 +57,7 @@ pub with_inputs : (told : Told) (asked : Asked) (parts : List (List ℕ)) (block
 with_inputs told asked parts blocks old new s are given sought =
     inl record { parts = parts; are = are; ends = record { blocks = blocks; given = given; sought = sought } }
 
-unread : (told : Told) (asked : Asked) (old new : Outside) (s : Status) (f : Failure) → IsUntouched old new → IsPartsFailure told asked f
+unread : (told : Told) (asked : Asked) (old new : Outside) (s : Status) (f : Failure) → IsOutsideUntouched old new → IsPartsFailure told asked f
     → s ≡ failure_status f → EndsUnread told asked old new s
 unread told asked old new s (failure.Part fault) same bad is = record { fault = fault; is = bad; status_is = is; untouched = same }
 unread told asked old new s (failure.Blocks name fault) same bad is = absurd bad
@@ -66,15 +66,15 @@ unread told asked old new s (failure.Write name error) same bad is = absurd bad
 unread told asked old new s failure.OutOfMemory same bad is = absurd bad
 
 -- so does one that can't have it
-pub without_inputs : (told : Told) (asked : Asked) (old new : Outside) (s : Status) (f : Failure) → IsUntouched old new
+pub without_inputs : (told : Told) (asked : Asked) (old new : Outside) (s : Status) (f : Failure) → IsOutsideUntouched old new
     → IsInputsFailure told asked f → s ≡ failure_status f → EndsBy told asked old new s
 without_inputs told asked old new s f same (inl bad) is = inr (inl (unread told asked old new s f same bad is))
 without_inputs told asked old new s f same (inr bad) is =
     inr (inr record { parts = bad.parts; are = bad.are; failure = f; is = bad.is; status_is = is; untouched = same })
 
 -- a call that is done and does what is asked has answered it
-answered_by : (told : Told) (words : List Text) (asked : Asked) (old new : Outside) (s : Status) → Asks words asked → EndsBy told asked old new s
-    → s ≡ status.Done → IsAnswered told words old new
+answered_by : (told : Told) (words : List Text) (asked : Asked) (old new : Outside) (s : Status) → AsksOfSeek words asked → EndsBy told asked old new s
+    → s ≡ status.Done → IsAnsweredByDecision told words old new
 answered_by told words asked old new s asks (inl by) done = record {
   asked = asked;
   asks = asks;
@@ -87,7 +87,7 @@ answered_by told words asked old new s asks (inr (inr by)) done = absurd (failed
 
 -- a call that is done has answered its words, or they ask for the help or the version
 pub answered : (files : FilesTold) (words : List Text) (old new : Outside) (s : Status) → EndsCall files words old new s → s ≡ status.Done
-    → AskForText words ⊎ IsAnswered files.bytes words old new
+    → AskForText words ⊎ IsAnsweredByDecision files.bytes words old new
 answered files words old new s (inr (inl shown)) done = inl shown.asks
 answered files words old new s (inr (inr refused)) done = elim refused.status_is [ inl is ↦ cc | inr is ↦ cc ]
 answered files words old new s (inl asked) done = inr (
@@ -97,8 +97,8 @@ answered files words old new s (inl asked) done = inr (
     ])
 
 -- words that `clap` or the seeker refuses
-refused : (words : List Text) (old new : Outside) (s : Status) (k : ErrorKind) → IsUntouched old new
-    → (k ≡ kind.OutOfMemory) ⊎ (IsShown k ⊎ AsksNothing words) → (IsShown k → ⊥) → (s ≡ status.Usage → k ≡ kind.OutOfMemory → ⊥)
+refused : (words : List Text) (old new : Outside) (s : Status) (k : ErrorKind) → IsOutsideUntouched old new
+    → (k ≡ kind.OutOfMemory) ⊎ (IsHelpOrVersion k ⊎ AsksNothingOfSeek words) → (IsHelpOrVersion k → ⊥) → (s ≡ status.Usage → k ≡ kind.OutOfMemory → ⊥)
     → s ≡ status.Usage → EndsRefused words old new s
 refused words old new s k same (inl memory) other usage is = absurd (usage is memory)
 refused words old new s k same (inr (inl shown)) other usage is = absurd (other shown)
@@ -106,8 +106,8 @@ refused words old new s k same (inr (inr none)) other usage is = record { status
 
 -- the same, and words that ask for the help or the version
 pub words_refused : (files : FilesTold) (words : List Text) (old new : Outside) (s : Status) (k : ErrorKind)
-    → (IsShown k → AskForText words) → (k ≡ kind.OutOfMemory) ⊎ (IsShown k ⊎ AsksNothing words)
-    → (IsShown k × IsShownTo old new s) ⊎ ((((IsShown k → ⊥) × (s ≡ status.Usage)) ⊎ (s ≡ status.OutOfMemory)) × IsUntouched old new)
+    → (IsHelpOrVersion k → AskForText words) → (k ≡ kind.OutOfMemory) ⊎ (IsHelpOrVersion k ⊎ AsksNothingOfSeek words)
+    → (IsHelpOrVersion k × IsShownTo old new s) ⊎ ((((IsHelpOrVersion k → ⊥) × (s ≡ status.Usage)) ⊎ (s ≡ status.OutOfMemory)) × IsOutsideUntouched old new)
     → (s ≡ status.Usage → k ≡ kind.OutOfMemory → ⊥) → EndsCall files words old new s
 words_refused files words old new s k shown none (inl (is, ends)) usage = inr (inl record { asks = shown is; shown = ends })
 words_refused files words old new s k shown none (inr (inl (other, ends), same)) usage =
@@ -117,12 +117,12 @@ words_refused files words old new s k shown none (inr (inr memory, same)) usage 
 
 -- outlets that stay are untouched
 pub untouched : {P W : Type 0} (standing : P → Option Standing) (contents : W → Option (List ℕ)) (old new : Outlets P W) → new ≡ old
-    → IsUntouched (outside_of standing contents old) (outside_of standing contents new)
+    → IsOutsideUntouched (outside_of standing contents old) (outside_of standing contents new)
 untouched standing contents old new same =
-    subst (λ o. IsUntouched (outside_of standing contents old) (outside_of standing contents o)) (sym same) (record { output = kept _; files = refl })
+    subst (λ o. IsOutsideUntouched (outside_of standing contents old) (outside_of standing contents o)) (sym same) (record { output = kept _; files = refl })
 
 -- words of which a text was shown, or nothing was changed
 pub settled_words : {P W A B : Type 0} (standing : P → Option Standing) (contents : W → Option (List ℕ)) (old new : Outlets P W)
-    → A ⊎ (B × (new ≡ old)) → A ⊎ (B × IsUntouched (outside_of standing contents old) (outside_of standing contents new))
+    → A ⊎ (B × (new ≡ old)) → A ⊎ (B × IsOutsideUntouched (outside_of standing contents old) (outside_of standing contents new))
 settled_words standing contents old new (inl shown) = inl shown
 settled_words standing contents old new (inr (ends, same)) = inr (ends, untouched standing contents old new same)

@@ -10,9 +10,9 @@ use Rattle.knot_ports.specs.declared.status.Status.{Status}
 use Rattle.knot_ports.specs.declared.status.Status.TheVariants as status
 use Rattle.seek_core.specs.declared.ending.Ending.{Ending}
 use Rattle.seek_core.specs.declared.ending.Ending.TheVariants as end
-use Rattle.seek_core.specs.Answers.{Ends, WritesDecision, ending_status}
-use Rattle.seek.specs.Exit.{Outside, IsKept, IsSought}
-use Rattle.seek.specs.Search.{Held, unseen, EndsSearch, IsSoughtToSink, IsDecisionText, IsUnput, IsSoughtToFile}
+use Rattle.seek_core.specs.Answers.{EndsRun, WritesDecision, ending_status}
+use Rattle.seek.specs.SeekExit.{Outside, IsKept, IsSought}
+use Rattle.seek.specs.Search.{HeldBySink, unseen, EndsSearch, IsSoughtToSink, IsDecisionText, IsUnput, IsSoughtToFile}
 
 -- only the ending of a verdict that was written has the status of one
 pub only_done : (e : Ending) → ending_status e ≡ status.Done → e ≡ end.Done
@@ -25,13 +25,13 @@ only_done end.WriteFault is = cc
 only_done end.OutOfMemory is = cc
 
 -- a call that is done has written a text that decides the input
-pub written_where_done : (bytes : List ℕ) (blocks : List Block) (before after : Held) (s : Status)
+pub written_where_done : (bytes : List ℕ) (blocks : List Block) (before after : HeldBySink) (s : Status)
     → IsSoughtToSink bytes blocks before after s → s ≡ status.Done → WritesDecision bytes before.bytes after.bytes
 written_where_done bytes blocks before after s sought done =
-    subst (Ends bytes before.bytes after.bytes) (only_done sought.ending (sym sought.status_is ∙ done)) sought.ends.ends
+    subst (EndsRun bytes before.bytes after.bytes) (only_done sought.ending (sym sought.status_is ∙ done)) sought.ends.ends
 
 -- an ending is one too where nothing is told of what was written
-untold : (bytes : List ℕ) (before after : Option (List ℕ)) (e : Ending) → Ends bytes before after e → Ends bytes None None e
+untold : (bytes : List ℕ) (before after : Option (List ℕ)) (e : Ending) → EndsRun bytes before after e → EndsRun bytes None None e
 untold bytes before after end.Done h = (h.0, (h.1.0, tt))
 untold bytes before after (end.NotFound tried) h = (h.0, tt)
 untold bytes before after (end.Malformed line) h = (h.0, tt)
@@ -41,7 +41,7 @@ untold bytes before after end.WriteFault h = (h.0, (h.1.0, (h.1.1.0, h.1.1.1, tt
 untold bytes before after end.OutOfMemory h = tt
 
 -- a search whose sink is in memory, didn't fail, and holds nothing that is put anywhere
-pub sought_in_memory : (bytes : List ℕ) (blocks : List Block) (before after : Held) (e : Ending) (s : Status)
+pub sought_in_memory : (bytes : List ℕ) (blocks : List Block) (before after : HeldBySink) (e : Ending) (s : Status)
     → EndsSearch bytes blocks before after e → (e ≡ end.WriteFault → ⊥) → s ≡ ending_status e → IsSoughtToSink bytes blocks unseen unseen s
 sought_in_memory bytes blocks before after e s ends unfailed is = record {
   ending = e;
@@ -55,7 +55,7 @@ sought_in_memory bytes blocks before after e s ends unfailed is = record {
 }
 
 -- a search that is done has written a text that decides an input within the limit
-pub decided : (bytes : List ℕ) (blocks : List Block) (before after : Held) (e : Ending) (text : List ℕ) → EndsSearch bytes blocks before after e
+pub decided : (bytes : List ℕ) (blocks : List Block) (before after : HeldBySink) (e : Ending) (text : List ℕ) → EndsSearch bytes blocks before after e
     → e ≡ end.Done → before.bytes ≡ Some [] → after.bytes ≡ Some text → IsDecisionText bytes text
 decided bytes blocks before after e text ends done empty held = record {
   within = elim (cases_lt MAX_INPUT (length bytes)) [
@@ -63,7 +63,7 @@ decided bytes blocks before after e text ends done empty held = record {
     | inr within ↦ within
   ];
   decides = subst (λ o. WritesDecision bytes o (Some text)) empty (subst (λ o. WritesDecision bytes before.bytes o) held
-      (subst (Ends bytes before.bytes after.bytes) done ends.ends));
+      (subst (EndsRun bytes before.bytes after.bytes) done ends.ends));
 }
 
 -- memory may be wanting for any search
@@ -95,5 +95,5 @@ pub sought_to_file : (out : Option (Bor (List ℕ))) (path : Bor (List ℕ)) (by
     → IsSought out bytes blocks old new s
 sought_to_file out path bytes blocks old new s is sought kept = subst (λ o. IsSought o bytes blocks old new s) (sym is) (sought, kept)
 
-pub kept : (held : Held) → IsKept held held
+pub kept : (held : HeldBySink) → IsKept held held
 kept held = record { bytes = Keeps-refl held.bytes; faults = refl }

@@ -2,14 +2,14 @@
 use Rattle.std.specs.Prelude.{◌⊎◌, ℕ, List}
 use Rattle.seek_words.specs.declared.asked.Asked.{Asked}
 use Rattle.seek_parts.specs.Parts.{Told, ArePartsOf, all_due}
-use Rattle.seek_parts.specs.Fault.{IsFaultOf}
+use Rattle.seek_parts.specs.Fault.{IsPartFaultOf}
 use Rattle.seek.specs.declared.failure.Failure.{Failure}
 use Rattle.seek.specs.declared.failure.Failure.TheVariants.{Part, Blocks, ReadAndWritten, Write, OutOfMemory}
 use Rattle.seek.specs.Blocks.{IsBlocksFailure}
 
 -- a part of what is asked can't be had
 abbrev pub IsPartsFailure : Told → Asked → Failure → Type 0
-IsPartsFailure told asked (Part fault) = IsFaultOf told (all_due asked) fault
+IsPartsFailure told asked (Part fault) = IsPartFaultOf told (all_due asked) fault
 IsPartsFailure told asked (Blocks name fault) = ⊥
 IsPartsFailure told asked (ReadAndWritten name) = ⊥
 IsPartsFailure told asked (Write name error) = ⊥

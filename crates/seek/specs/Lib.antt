@@ -2,4 +2,4 @@ pub mod Failure
 pub mod Blocks
 pub mod Inputs
 pub mod Search
-pub mod Exit
+pub mod SeekExit

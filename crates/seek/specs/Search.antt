@@ -10,35 +10,35 @@ use Rattle.seek_core.specs.declared.ending.Ending.{Ending}
 use Rattle.evidence_core.specs.declared.blocks.Block.{Block}
 use Rattle.seek_core.specs.declared.answer.Tried.{Tried}
 use Rattle.seek_core.specs.declared.ending.Ending.TheVariants.{NotFound, WriteFault}
-use Rattle.seek_core.specs.Answers.{Ends, WritesDecision, BlocksTriedInVain, EndsTooLong, ending_status}
+use Rattle.seek_core.specs.Answers.{EndsRun, WritesDecision, BlocksTriedInVain, EndsTooLong, ending_status}
 
 -- what a sink holds, as far as it is told, and how many faults it counts
-pub record Held : Type 0 where
+pub record HeldBySink : Type 0 where
   pub bytes : Option (List ℕ)
   pub faults : ℕ
 
 -- what a sink comes to, by what tells the bytes that it holds, and what tells how many faults it counts
-abbrev pub held_of : {X : Type 0} → (X → Option (List ℕ)) → (X → ℕ) → X → Held
+abbrev pub held_of : {X : Type 0} → (X → Option (List ℕ)) → (X → ℕ) → X → HeldBySink
 held_of bytes_of faults_of sink = record { bytes = bytes_of sink; faults = faults_of sink }
 
 -- the same of a sink over a writer, by what tells the bytes that a writer holds
-abbrev pub port_held : {X : Type 0} → (X → Option (List ℕ)) → Counted X → Held
+abbrev pub port_held : {X : Type 0} → (X → Option (List ℕ)) → Counted X → HeldBySink
 port_held bytes_of sink = record { bytes = bytes_of sink.port; faults = sink.errors }
 
 -- what is told of a sink whose text is put nowhere: it never fails
-abbrev pub unseen : Held
+abbrev pub unseen : HeldBySink
 unseen = record { bytes = None; faults = 0 }
 
 -- a search ended so: what was held before and is held after is as this ending says, and so are the blocks that were tried in vain. A long
 -- input is refused, and the sink failed only where its count of faults rose
-pub record EndsSearch (bytes : List ℕ) (blocks : List Block) (before after : Held) (ending : Ending) : Type 0 where
-  pub ends : Ends bytes before.bytes after.bytes ending
+pub record EndsSearch (bytes : List ℕ) (blocks : List Block) (before after : HeldBySink) (ending : Ending) : Type 0 where
+  pub ends : EndsRun bytes before.bytes after.bytes ending
   pub vain : (tried : Tried) → ending ≡ NotFound tried → BlocksTriedInVain bytes blocks tried
   pub long : MAX_INPUT < length bytes → EndsTooLong ending
   pub fault : ending ≡ WriteFault → Rose before.faults after.faults
 
 -- the status is that of an ending by which the search ended
-pub record IsSoughtToSink (bytes : List ℕ) (blocks : List Block) (before after : Held) (s : Status) : Type 0 where
+pub record IsSoughtToSink (bytes : List ℕ) (blocks : List Block) (before after : HeldBySink) (s : Status) : Type 0 where
   pub ending : Ending
   pub status_is : s ≡ ending_status ending
   pub ends : EndsSearch bytes blocks before after ending

@@ -5,9 +5,9 @@ ghost use Rattle.std.specs.Process.{exit_status};
 ghost use Rattle.clap.specs.Values.{kind_of};
 ghost use Rattle.clap.specs.declared.error.kind.ErrorKind.TheVariants as kind;
 ghost use Rattle.knot_ports.specs.declared.status.Status.TheVariants as status;
-ghost use Rattle.knot_words.specs.Numbers.{texts_of};
-ghost use Rattle.seek_words.specs.Words.{IsShown, AskForText};
-ghost use Rattle.seek.specs.Exit.{outside_of, told_of, EndsBy, EndsDoing, IsShownTo, EndsCall, IsExitOf, IsAnswered};
+ghost use Rattle.knot_words.specs.OptionNumbers.{texts_of};
+ghost use Rattle.seek_words.specs.Words.{IsHelpOrVersion, AskForText};
+ghost use Rattle.seek.specs.SeekExit.{outside_of, told_of, EndsBy, EndsDoing, IsShownTo, EndsCall, IsExitOfSeek, IsAnsweredByDecision};
 
 use crate::failure::{Failure, OUTPUT, file_name};
 use crate::inputs::read_inputs;
@@ -35,9 +35,9 @@ pub(crate) fn call<R: Threads + Sync + Eprint + Clock, F: Texts, P: Places, W: W
     files: &F,
     outlets: &mut Outlets<P, W>,
 ) -> ExitCode
-    ensures exit { IsExitOf (told_of F.told F.named files.now) (texts_of words.now)
+    ensures exit { IsExitOfSeek (told_of F.told F.named files.now) (texts_of words.now)
         (outside_of P.standing W.contents outlets.old) (outside_of P.standing W.contents outlets.new) result }
-    ensures done { exit_status result ≡ 0 → AskForText (texts_of words.now) ⊎ IsAnswered (F.told files.now) (texts_of words.now)
+    ensures done { exit_status result ≡ 0 → AskForText (texts_of words.now) ⊎ IsAnsweredByDecision (F.told files.now) (texts_of words.now)
         (outside_of P.standing W.contents outlets.old) (outside_of P.standing W.contents outlets.new) }
 {
     answer(rt, alloc, terminals, words, files, outlets).exit_code()
@@ -68,8 +68,8 @@ fn answer_words<R: Eprint, P: Places, W: Write + Drop>(
     error: &clap::Error,
     outlets: &mut Outlets<P, W>,
 ) -> Status
-    ensures shown { (IsShown (kind_of error.now) × IsShownTo (outside_of P.standing W.contents outlets.old) (outside_of P.standing W.contents outlets.new) result)
-        ⊎ ((((IsShown (kind_of error.now) → ⊥) × (result ≡ status.Usage)) ⊎ (result ≡ status.OutOfMemory)) × (outlets.new ≡ outlets.old)) }
+    ensures shown { (IsHelpOrVersion (kind_of error.now) × IsShownTo (outside_of P.standing W.contents outlets.old) (outside_of P.standing W.contents outlets.new) result)
+        ⊎ ((((IsHelpOrVersion (kind_of error.now) → ⊥) × (result ≡ status.Usage)) ⊎ (result ≡ status.OutOfMemory)) × (outlets.new ≡ outlets.old)) }
     ensures usage { result ≡ status.Usage → kind_of error.now ≢ kind.OutOfMemory }
 {
     match error.kind() {

@@ -1,5 +1,5 @@
 //! All that `main` does: a call of the words that came, or a sentence where none did.
-ghost use Rattle.seek.specs.Exit.{outside_of, told_of, came, EndsProgram};
+ghost use Rattle.seek.specs.SeekExit.{outside_of, told_of, came, EndsSeek};
 
 use crate::call::call;
 use crate::outlets::{Outlets, Terminals};
@@ -20,7 +20,7 @@ pub(crate) fn program<R: Threads + Sync + Eprint + Clock, F: Texts, P: Places, W
     files: &F,
     outlets: &mut Outlets<P, W>,
 ) -> ExitCode
-    ensures { EndsProgram (told_of F.told F.named files.now) (came words)
+    ensures { EndsSeek (told_of F.told F.named files.now) (came words)
         (outside_of P.standing W.contents outlets.old) (outside_of P.standing W.contents outlets.new) result }
 {
     match words {

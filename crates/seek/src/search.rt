@@ -7,7 +7,7 @@ ghost use Rattle.seek_core.specs.Parts.{joined};
 ghost use Rattle.seek_parts.specs.Places.{PutsAt};
 ghost use Rattle.seek.specs.Failure.{failure_status};
 ghost use Rattle.seek.specs.Search.{held_of, port_held, unseen, EndsSearch, IsSoughtToSink, IsDecisionText, IsSoughtToFile};
-ghost use Rattle.seek.specs.Exit.{outside_of, IsSought};
+ghost use Rattle.seek.specs.SeekExit.{outside_of, IsSought};
 
 use crate::failure::{Failure, OUTPUT, file_name};
 use crate::inputs::Inputs;

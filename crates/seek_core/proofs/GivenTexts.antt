@@ -18,7 +18,7 @@ use Rattle.evidence_core.specs.declared.evidence.Evidence.TheVariants.{Linking}
 use Rattle.number_text.specs.Blocks.{blocks, blocks_in, blocks_of}
 use Rattle.quandle_core.specs.declared.operations.TheConstants.{MAX_LARGE_ORDER}
 use Rattle.evidence_core.specs.Links.{linked_of}
-use Rattle.evidence_core.specs.Links.{are_same}
+use Rattle.evidence_core.specs.Links.{are_same_links}
 use Rattle.certificates.specs.Printed.{HasBlockText}
 use Rattle.certificate_check.specs.Decision.{IsByWrittenBlock}
 use Rattle.certificate_check.proofs.BlocksSay.{blocks_text}
@@ -60,7 +60,7 @@ by_blocks d e s (b ∷ given) x one two plans texts is = by (tells d e s b) is (
     by false is others = others is
 
 by_linking : (d e : Diagram) (x : Evidence) → told_by_linking d e ≡ Some x → IsByWrittenBlock x
-by_linking d e x is = by (are_same (linked_of d) (linked_of e)) is
+by_linking d e x is = by (are_same_links (linked_of d) (linked_of e)) is
   where
     by : (t : Bool) → cond t None (Some (Linking (linked_of d) (linked_of e))) ≡ Some x → IsByWrittenBlock x
     by true is = absurd cc

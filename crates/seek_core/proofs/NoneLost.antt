@@ -18,7 +18,7 @@ use Rattle.quandle_core.proofs.Named.{IsNamedSo, named_so}
 use Rattle.knot_text.specs.Printed.{HasQuandleText}
 use Rattle.verdict_text.specs.Problems.{problem_of}
 use Rattle.pair_verdict.specs.Separates.{separates, first_separating}
-use Rattle.seek_core.specs.Candidates.{fits_diagrams, same_name, is_named, fitting, IsUnlisted, candidates}
+use Rattle.seek_core.specs.Candidates.{fits_diagrams, same_name, is_named, fitting, IsUnlisted, candidate_quandles}
 use Rattle.seek_core.specs.Formulas.{quandles_named, formula_names, formula_quandles}
 use Rattle.seek_core.specs.declared.answer.Tried.{Tried}
 use Rattle.seek_core.specs.Answers.{QuandlesTriedInVain}
@@ -148,7 +148,7 @@ first_both d e listed (Some q) is names = refl
 first_both d e listed None is names = first_by_formula d e listed names is
 
 pub first_of_all : (d e : Diagram) (listed : List NamedQuandle) → All (λ (q : NamedQuandle). Names q.name q.table) listed
-    → first_separating d e (candidates d e listed) ≡ first_separating d e (listed ++ formula_quandles)
+    → first_separating d e (candidate_quandles d e listed) ≡ first_separating d e (listed ++ formula_quandles)
 first_of_all d e listed names =
     find-append (Separates d e) (fitting d e [] listed) (fitting d e listed formula_quandles)
     ∙ ap (λ (o : Option NamedQuandle). option_or o (first_separating d e (fitting d e listed formula_quandles))) (first_listed d e listed)
@@ -168,7 +168,7 @@ none_of_back (Some q) p none = absurd cc
 none_separates : (d e : Diagram) (qs : List NamedQuandle) → first_separating d e qs ≡ None → All (λ (q : NamedQuandle). separates d e q.table ≡ false) qs
 none_separates d e qs none = All-from_recursion (λ (q : NamedQuandle). separates d e q.table ≡ false) qs (none_passes (Separates d e) qs none)
 
-pub none_listed : (d e : Diagram) (listed : List NamedQuandle) → first_separating d e (candidates d e listed) ≡ None
+pub none_listed : (d e : Diagram) (listed : List NamedQuandle) → first_separating d e (candidate_quandles d e listed) ≡ None
     → All (λ (q : NamedQuandle). separates d e q.table ≡ false) listed
 none_listed d e listed none =
     let parts = sym (find-append (Separates d e) (fitting d e [] listed) (fitting d e listed formula_quandles)) ∙ none in
@@ -176,17 +176,18 @@ none_listed d e listed none =
     none_separates d e listed (sym (first_listed d e listed) ∙ front)
 
 pub none_by_formula : (d e : Diagram) (listed : List NamedQuandle) → All (λ (q : NamedQuandle). Names q.name q.table) listed
-    → first_separating d e (candidates d e listed) ≡ None → All (λ (q : NamedQuandle). separates d e q.table ≡ false) formula_quandles
+    → first_separating d e (candidate_quandles d e listed) ≡ None → All (λ (q : NamedQuandle). separates d e q.table ≡ false) formula_quandles
 none_by_formula d e listed names none =
     let parts = sym (find-append (Separates d e) listed formula_quandles) ∙ sym (first_of_all d e listed names) ∙ none in
     none_separates d e formula_quandles (none_of_back (first_separating d e listed) (first_separating d e formula_quandles) parts)
 
 -- the diagrams of a problem
 pub none_of_problem : (bytes : List ℕ) (tried : Tried) (p : ProblemText) → QuandlesTriedInVain bytes tried → problem_of bytes ≡ Ok p
-    → first_separating (grid_of p.first) (grid_of p.second) (candidates (grid_of p.first) (grid_of p.second) p.quandles) ≡ None
+    → first_separating (grid_of p.first) (grid_of p.second) (candidate_quandles (grid_of p.first) (grid_of p.second) p.quandles) ≡ None
 none_of_problem bytes tried p was read =
     let same : was.problem ≡ p = let e = sym was.read ∙ read in cc in
-    subst (λ (r : ProblemText). first_separating (grid_of r.first) (grid_of r.second) (candidates (grid_of r.first) (grid_of r.second) r.quandles) ≡ None) same
+    subst (λ (r : ProblemText). first_separating (grid_of r.first) (grid_of r.second) (candidate_quandles (grid_of r.first) (grid_of r.second) r.quandles)
+    ≡ None) same
     (sym (ap (first_separating (grid_of was.problem.first) (grid_of was.problem.second)) was.quandles) ∙ was.in_vain)
 
 pub names_of : (qs : List NamedQuandle) → AllByRecursion HasQuandleText qs → All (λ (q : NamedQuandle). Names q.name q.table) qs
@@ -225,7 +226,7 @@ fit_each d e others qs =
     (filter_passes (Keeps d e others) qs)
 
 pub fit_both : (d e : Diagram) (listed : List NamedQuandle)
-    → All (λ (q : NamedQuandle). (fits q.table d ≡ true) × (fits q.table e ≡ true)) (candidates d e listed)
+    → All (λ (q : NamedQuandle). (fits q.table d ≡ true) × (fits q.table e ≡ true)) (candidate_quandles d e listed)
 fit_both d e listed =
     All-append (FitsBoth d e) (fitting d e [] listed) (fitting d e listed formula_quandles) (fit_each d e [] listed) (fit_each d e listed formula_quandles)
 
@@ -249,6 +250,6 @@ known_by_formula d e listed = λ k z below. inr (
 )
 
 pub known : (d e : Diagram) (listed : List NamedQuandle)
-    → All (λ (q : NamedQuandle). Contains listed q ⊎ IsUnlisted listed q) (candidates d e listed)
+    → All (λ (q : NamedQuandle). Contains listed q ⊎ IsUnlisted listed q) (candidate_quandles d e listed)
 known d e listed =
     All-append (IsKnown listed) (fitting d e [] listed) (fitting d e listed formula_quandles) (known_listed d e listed) (known_by_formula d e listed)

@@ -23,7 +23,7 @@ use Rattle.number_text.specs.declared.said.Said.TheVariants as said
 use Rattle.number_search.specs.declared.seed_pair.SeedPair.{SeedPair}
 use Rattle.number_search.specs.Told.{told_by_linking, told_by_blocks, told_apart}
 use Rattle.seek_core.specs.Found.{IsEqualBy, IsVerdictBy, IsVerdictWhere, IsFoundWhere}
-use Rattle.seek_core.specs.Sizes.{of_size, as_tried}
+use Rattle.seek_core.specs.Sizes.{blocks_of_size, as_tried}
 use Rattle.seek_core.proofs.LargerLast.{larger_last}
 
 -- ---- no quandle separates diagrams that are joined
@@ -111,28 +111,30 @@ nothing_later d e qs front others n evidence o p is behind found none later last
 -- ---- the last round: the larger blocks
 
 pub found_before : (d e : Diagram) (s : SeedPair) (blocks : List Block) (q : Option NamedQuandle) (o : Option Said)
-    → IsFoundWhere d e q (told_apart d e s (of_size false blocks)) o → is_some o ≡ true → IsFoundWhere d e q (told_apart d e s (as_tried blocks)) o
+    → IsFoundWhere d e q (told_apart d e s (blocks_of_size false blocks)) o → is_some o ≡ true → IsFoundWhere d e q (told_apart d e s (as_tried blocks)) o
 found_before d e s blocks q None found some = absurd cc
 found_before d e s blocks q (Some (said.Verdict v)) found some = found
 found_before d e s blocks q (Some (said.Evidence x)) found some =
-    larger_last d e s blocks ∙ ap (λ (p : Option Evidence). option_or p (told_by_blocks d e s (of_size true blocks))) found
+    larger_last d e s blocks ∙ ap (λ (p : Option Evidence). option_or p (told_by_blocks d e s (blocks_of_size true blocks))) found
 
 -- where nothing is found before, the larger blocks have the say
 larger_alone : (d e : Diagram) (s : SeedPair) (blocks : List Block) (q : Option NamedQuandle) (o : Option Said)
-    → IsFoundWhere d e q (told_apart d e s (of_size false blocks)) o → is_some o ≡ false
-    → told_apart d e s (as_tried blocks) ≡ told_by_blocks d e s (of_size true blocks)
+    → IsFoundWhere d e q (told_apart d e s (blocks_of_size false blocks)) o → is_some o ≡ false
+    → told_apart d e s (as_tried blocks) ≡ told_by_blocks d e s (blocks_of_size true blocks)
 larger_alone d e s blocks q o found none =
-    let nothing = neither d e q (told_apart d e s (of_size false blocks)) o found none in
-    larger_last d e s blocks ∙ ap (λ (p : Option Evidence). option_or p (told_by_blocks d e s (of_size true blocks))) nothing.1
+    let nothing = neither d e q (told_apart d e s (blocks_of_size false blocks)) o found none in
+    larger_last d e s blocks ∙ ap (λ (p : Option Evidence). option_or p (told_by_blocks d e s (blocks_of_size true blocks))) nothing.1
 
 pub found_last : (d e : Diagram) (s : SeedPair) (blocks : List Block) (q : Option NamedQuandle) (o : Option Said) (p : Option Evidence) (x : Evidence)
-    → IsFoundWhere d e q (told_apart d e s (of_size false blocks)) o → is_some o ≡ false → p ≡ told_by_blocks d e s (of_size true blocks) → p ≡ Some x
+    → IsFoundWhere d e q (told_apart d e s (blocks_of_size false blocks)) o → is_some o ≡ false → p ≡ told_by_blocks d e s (blocks_of_size true blocks)
+    → p ≡ Some x
     → told_apart d e s (as_tried blocks) ≡ Some x
 found_last d e s blocks q o p x found none is some = larger_alone d e s blocks q o found none ∙ sym is ∙ some
 
 pub nothing_last : (d e : Diagram) (s : SeedPair) (blocks : List Block) (q : Option NamedQuandle) (o : Option Said) (p : Option Evidence)
-    → IsFoundWhere d e q (told_apart d e s (of_size false blocks)) o → is_some o ≡ false → p ≡ told_by_blocks d e s (of_size true blocks) → p ≡ None
+    → IsFoundWhere d e q (told_apart d e s (blocks_of_size false blocks)) o → is_some o ≡ false → p ≡ told_by_blocks d e s (blocks_of_size true blocks)
+    → p ≡ None
     → (q ≡ None) × (told_apart d e s (as_tried blocks) ≡ None)
 nothing_last d e s blocks q o p found none is last =
-    let nothing = neither d e q (told_apart d e s (of_size false blocks)) o found none in
+    let nothing = neither d e q (told_apart d e s (blocks_of_size false blocks)) o found none in
     (nothing.0, larger_alone d e s blocks q o found none ∙ sym is ∙ last)

@@ -4,8 +4,8 @@ use Rattle.std.proofs.lemmas.List.Elements.{All-append, All-filter, recursion_fr
 use Rattle.std.specs.Option.{option_or}
 use Rattle.grid_core.specs.Diagram.{Diagram, IsGrid}
 use Rattle.quandle_core.specs.Names.{NamedQuandle}
-use Rattle.verdict_core.specs.Diagrams.{grid_of, columns}
-use Rattle.verdict_core.specs.Evidence.{Holds, IsTidyVerdict}
+use Rattle.verdict_core.specs.Diagrams.{grid_of, column_count}
+use Rattle.verdict_core.specs.Evidence.{VerdictHolds, IsTidyVerdict}
 use Rattle.verdict_core.specs.declared.problem.ProblemText.{ProblemText}
 use Rattle.verdict_core.specs.declared.verdict.Verdict.{Verdict}
 use Rattle.knot_text.specs.Printed.{HasQuandleText}
@@ -24,7 +24,7 @@ use Rattle.number_search.specs.Told.{told_by_linking, told_by_blocks, told_apart
 use Rattle.number_search.proofs.Held.{told_holds}
 use Rattle.certificate_check.specs.Decision.{IsFindingOf}
 use Rattle.certificate_check.proofs.HeldTexts.{held_text}
-use Rattle.seek_core.specs.Candidates.{fitting, candidates}
+use Rattle.seek_core.specs.Candidates.{fitting, candidate_quandles}
 use Rattle.seek_core.specs.Formulas.{formula_quandles}
 use Rattle.seek_core.specs.declared.finding.Search.{Search}
 use Rattle.seek_core.specs.declared.answer.Tried.{Tried}
@@ -40,13 +40,13 @@ use Rattle.seek_core.proofs.LargerLast.{tried_texts, none_told}
 fitting_texts : (d e : Diagram) (others qs : List NamedQuandle) → All HasQuandleText qs → All HasQuandleText (fitting d e others qs)
 fitting_texts d e others qs all = All-filter _ HasQuandleText qs all
 
-pub candidate_texts : (d e : Diagram) (qs : List NamedQuandle) → All HasQuandleText qs → All HasQuandleText (candidates d e qs)
+pub candidate_texts : (d e : Diagram) (qs : List NamedQuandle) → All HasQuandleText qs → All HasQuandleText (candidate_quandles d e qs)
 candidate_texts d e qs all =
     search (All-append HasQuandleText, fitting_texts, formula_texts, all)
 
 -- those that were appended, in both turns
 pub candidates_are : (d e : Diagram) (listed formulas start mid end : List NamedQuandle) → start ≡ [] → mid ≡ start ++ fitting d e [] listed
-    → formulas ≡ formula_quandles → end ≡ mid ++ fitting d e listed formulas → end ≡ candidates d e listed
+    → formulas ≡ formula_quandles → end ≡ mid ++ fitting d e listed formulas → end ≡ candidate_quandles d e listed
 candidates_are d e listed formulas start mid end none first same second =
     second
     ∙ ap (λ (qs : List NamedQuandle). qs ++ fitting d e listed formulas) (first ∙ ap (λ (qs : List NamedQuandle). qs ++ fitting d e [] listed) none)
@@ -65,7 +65,7 @@ search_of d e d' e' listed listed' blocks s first second same search =
 -- ---- what it is worth
 
 record IsWorth (d e : Diagram) (v : Verdict) : Type 0 where
-  holds : Holds d e v
+  holds : VerdictHolds d e v
   written : IsByWrittenQuandle v
   tidy : IsTidyVerdict v
 
@@ -118,7 +118,7 @@ linking_none d e s blocks none = by (told_by_linking d e) refl none
     by (Some x) linking none = absurd cc
 
 pub in_vain_of : (bytes : List ℕ) (p : ProblemText) (blocks : List Block) (s : Search) (tried : Tried) → problem_of bytes ≡ Ok p
-    → tried.columns ≡ (columns p.first, columns p.second) → tried.quandles ≡ s.quandles.items → tried.blocks ≡ s.blocks → s.said ≡ None
+    → tried.columns ≡ (column_count p.first, column_count p.second) → tried.quandles ≡ s.quandles.items → tried.blocks ≡ s.blocks → s.said ≡ None
     → IsSearchOf p blocks s → QuandlesTriedInVain bytes tried × BlocksTriedInVain bytes blocks tried
 in_vain_of bytes p blocks s tried read wide same fitting none search =
     let d = grid_of p.first in

@@ -8,7 +8,7 @@ use Rattle.knot_ports.specs.declared.status.Status.{Status}
 use Rattle.knot_ports.specs.declared.status.Status.TheVariants as status
 use Rattle.knot_ports.specs.declared.limits.TheConstants.{MAX_INPUT}
 use Rattle.verdict_core.specs.declared.problem.ProblemText.{ProblemText}
-use Rattle.verdict_core.specs.Diagrams.{grid_of, columns}
+use Rattle.verdict_core.specs.Diagrams.{grid_of, column_count}
 use Rattle.pair_verdict.specs.Separates.{first_separating}
 use Rattle.evidence_core.specs.declared.blocks.Block.{Block}
 use Rattle.certificate_check.specs.Decision.{IsDecision}
@@ -19,7 +19,7 @@ use Rattle.seek_core.specs.declared.answer.Answer.{Answer}
 use Rattle.seek_core.specs.declared.answer.Answer.TheVariants as answer
 use Rattle.seek_core.specs.declared.ending.Ending.{Ending}
 use Rattle.seek_core.specs.declared.ending.Ending.TheVariants as ending
-use Rattle.seek_core.specs.Candidates.{candidates}
+use Rattle.seek_core.specs.Candidates.{candidate_quandles}
 
 -- ---- answers
 
@@ -28,9 +28,9 @@ use Rattle.seek_core.specs.Candidates.{candidates}
 pub record QuandlesTriedInVain (bytes : List ℕ) (tried : Tried) : Type 0 where
   pub problem : ProblemText
   pub read : problem_of bytes ≡ Ok problem
-  pub wide : tried.columns ≡ (columns problem.first, columns problem.second)
+  pub wide : tried.columns ≡ (column_count problem.first, column_count problem.second)
   pub linking : told_by_linking (grid_of problem.first) (grid_of problem.second) ≡ None
-  pub quandles : tried.quandles ≡ candidates (grid_of problem.first) (grid_of problem.second) problem.quandles
+  pub quandles : tried.quandles ≡ candidate_quandles (grid_of problem.first) (grid_of problem.second) problem.quandles
   pub in_vain : first_separating (grid_of problem.first) (grid_of problem.second) tried.quandles ≡ None
 
 -- so many of the blocks fit plans of both diagrams of a problem, and none of these tells the diagrams apart
@@ -57,14 +57,14 @@ WritesDecision bytes before after = (text : List ℕ) × (IsDecision bytes text 
 
 -- how a call ended, and what it left in the sink: a text that decides the input where it is done, a front of one where the sink failed, and
 -- nothing else
-abbrev pub Ends : List ℕ → Option (List ℕ) → Option (List ℕ) → Ending → Type 0
-Ends bytes before after ending.Done = WritesDecision bytes before after
-Ends bytes before after (ending.NotFound tried) = QuandlesTriedInVain bytes tried × Keeps before after
-Ends bytes before after (ending.Malformed line) = (problem_of bytes ≡ Err (bad.Malformed line)) × Keeps before after
-Ends bytes before after (ending.Limit line) = (problem_of bytes ≡ Err (bad.Limit line)) × Keeps before after
-Ends bytes before after ending.TooLong = (MAX_INPUT < length bytes) × Keeps before after
-Ends bytes before after ending.WriteFault = (text : List ℕ) × (IsDecision bytes text × AppendsFront before after text)
-Ends bytes before after ending.OutOfMemory = Keeps before after
+abbrev pub EndsRun : List ℕ → Option (List ℕ) → Option (List ℕ) → Ending → Type 0
+EndsRun bytes before after ending.Done = WritesDecision bytes before after
+EndsRun bytes before after (ending.NotFound tried) = QuandlesTriedInVain bytes tried × Keeps before after
+EndsRun bytes before after (ending.Malformed line) = (problem_of bytes ≡ Err (bad.Malformed line)) × Keeps before after
+EndsRun bytes before after (ending.Limit line) = (problem_of bytes ≡ Err (bad.Limit line)) × Keeps before after
+EndsRun bytes before after ending.TooLong = (MAX_INPUT < length bytes) × Keeps before after
+EndsRun bytes before after ending.WriteFault = (text : List ℕ) × (IsDecision bytes text × AppendsFront before after text)
+EndsRun bytes before after ending.OutOfMemory = Keeps before after
 
 -- what a call comes to whose input is too long
 abbrev pub EndsTooLong : Ending → Type 0

@@ -29,8 +29,8 @@ abbrev pub fitting : Diagram → Diagram → List NamedQuandle → List NamedQua
 fitting d e others quandles = filter (λ (q : NamedQuandle). fits_diagrams d e q && not (is_named others q.name)) quandles
 
 -- those of a problem, and then those by formula that are not among them
-abbrev pub candidates : Diagram → Diagram → List NamedQuandle → List NamedQuandle
-candidates d e listed = fitting d e [] listed ++ fitting d e listed formula_quandles
+abbrev pub candidate_quandles : Diagram → Diagram → List NamedQuandle → List NamedQuandle
+candidate_quandles d e listed = fitting d e [] listed ++ fitting d e listed formula_quandles
 
 -- by formula, and called like none of the listed ones
 abbrev pub IsUnlisted : List NamedQuandle → NamedQuandle → Type 0

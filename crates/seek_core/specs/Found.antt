@@ -17,7 +17,7 @@ use Rattle.number_text.specs.declared.said.Said.TheVariants as said
 use Rattle.number_search.specs.declared.seed_pair.SeedPair.{SeedPair}
 use Rattle.number_search.specs.Told.{ArePlansOf, fits_both, told_apart}
 use Rattle.seek_core.specs.declared.finding.Search.{Search}
-use Rattle.seek_core.specs.Candidates.{candidates}
+use Rattle.seek_core.specs.Candidates.{candidate_quandles}
 use Rattle.seek_core.specs.Pairs.{SeededPair}
 use Rattle.seek_core.specs.Sizes.{as_tried}
 
@@ -57,7 +57,7 @@ IsFoundOn p quandles blocks o =
 -- what a search on two diagrams and listed quandles tried and found, where so many of the blocks fit plans of both diagrams. Where linking
 -- numbers don't differ, evidence is by the first block that tells, in the order of `as_tried`
 pub record IsSearchOn (d e : Diagram) (listed : List NamedQuandle) (blocks : List Block) (s : Search) : Type 0 where
-  pub quandles : s.quandles.items ≡ candidates d e listed
+  pub quandles : s.quandles.items ≡ candidate_quandles d e listed
   pub seeds : SeedPair
   pub plans : ArePlansOf d e seeds
   pub fitting : s.blocks ≡ count_by (fits_both seeds) blocks

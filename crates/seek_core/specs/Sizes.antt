@@ -10,9 +10,9 @@ abbrev pub is_larger : Block → Bool
 is_larger b = nat_lt MAX_ORDER b.listed.table.order
 
 -- the larger ones of these blocks, or the others
-abbrev pub of_size : Bool → List Block → List Block
-of_size larger blocks = filter (λ (b : Block). beq (is_larger b) larger) blocks
+abbrev pub blocks_of_size : Bool → List Block → List Block
+blocks_of_size larger blocks = filter (λ (b : Block). beq (is_larger b) larger) blocks
 
 -- the larger ones behind the others
 abbrev pub as_tried : List Block → List Block
-as_tried blocks = of_size false blocks ++ of_size true blocks
+as_tried blocks = blocks_of_size false blocks ++ blocks_of_size true blocks

@@ -2,7 +2,7 @@
 ghost use Rattle.std.specs.Prelude.{◌≡◌, [], ◌∷◌, ◌++◌, IfOk, OnOk};
 ghost use Rattle.std.specs.List.{All};
 ghost use Rattle.knot_text.specs.Printed.{HasQuandleText};
-ghost use Rattle.seek_core.specs.Candidates.{fits_diagrams, is_named, fitting, candidates};
+ghost use Rattle.seek_core.specs.Candidates.{fits_diagrams, is_named, fitting, candidate_quandles};
 
 use crate::formulas::formula_quandles;
 use colour_list::fits;
@@ -19,7 +19,7 @@ pub(crate) fn candidates(
     listed: &[Listed],
 ) -> Result<Vec<Listed>, OutOfMemory>
     requires { All HasQuandleText listed.now }
-    ensures quandles { IfOk result (λ v. v.items ≡ candidates first.now second.now listed.now) }
+    ensures quandles { IfOk result (λ v. v.items ≡ candidate_quandles first.now second.now listed.now) }
     ensures texts { IfOk result (λ v. All HasQuandleText v.items) }
 {
     let mut tried = Vec::new(alloc);

@@ -6,7 +6,7 @@ ghost use Rattle.knot_ports.specs.Faults.{Rose};
 ghost use Rattle.knot_ports.specs.declared.status.Status.TheVariants as status;
 ghost use Rattle.seek_core.specs.declared.ending.Ending.TheVariants as ending;
 ghost use Rattle.knot_ports.specs.declared.limits.TheConstants.{MAX_INPUT};
-ghost use Rattle.seek_core.specs.Answers.{Ends, WritesDecision, BlocksTriedInVain, EndsTooLong, IsTrueAnswer, ending_status};
+ghost use Rattle.seek_core.specs.Answers.{EndsRun, WritesDecision, BlocksTriedInVain, EndsTooLong, IsTrueAnswer, ending_status};
 ghost use Rattle.seek_core.specs.Parts.{joined};
 
 use crate::answer::{Answer, Tried, answer_to};
@@ -72,7 +72,7 @@ pub fn run<R: Threads + Sync, K: Sink, W: Watch>(
     watch: &mut W,
 ) -> Ending
     ensures decides { ending_status result ≡ status.Done → WritesDecision (joined parts.now) (K.held sink.old) (K.held sink.new) }
-    ensures ends { Ends (joined parts.now) (K.held sink.old) (K.held sink.new) result }
+    ensures ends { EndsRun (joined parts.now) (K.held sink.old) (K.held sink.new) result }
     ensures blocks { (tried : Tried) → result ≡ ending.NotFound tried → BlocksTriedInVain (joined parts.now) blocks.now tried }
     ensures long { MAX_INPUT < length (joined parts.now) → EndsTooLong result }
     ensures fault { result ≡ ending.WriteFault → Rose (K.faults sink.old) (K.faults sink.new) }
@@ -94,7 +94,7 @@ fn run_whole<R: Threads + Sync, K: Sink, W: Watch>(
     sink: &mut K,
     watch: &mut W,
 ) -> Ending
-    ensures ends { Ends bytes.now (K.held sink.old) (K.held sink.new) result }
+    ensures ends { EndsRun bytes.now (K.held sink.old) (K.held sink.new) result }
     ensures blocks { (tried : Tried) → result ≡ ending.NotFound tried → BlocksTriedInVain bytes.now blocks.now tried }
     ensures long { MAX_INPUT < length bytes.now → EndsTooLong result }
     ensures fault { result ≡ ending.WriteFault → Rose (K.faults sink.old) (K.faults sink.new) }
@@ -111,7 +111,7 @@ fn run_whole<R: Threads + Sync, K: Sink, W: Watch>(
 
 /// Writes an answer, where it is a text, whatever input it answers.
 fn deliver<K: Sink>(answer: Answer, sink: &mut K) -> Ending
-    ensures ends { (bytes : List ℕ) (blocks : List Block) → IsTrueAnswer bytes blocks answer → Ends bytes (K.held sink.old) (K.held sink.new) result }
+    ensures ends { (bytes : List ℕ) (blocks : List Block) → IsTrueAnswer bytes blocks answer → EndsRun bytes (K.held sink.old) (K.held sink.new) result }
     ensures blocks { (bytes : List ℕ) (blocks : List Block) (tried : Tried) → IsTrueAnswer bytes blocks answer → result ≡ ending.NotFound tried
         → BlocksTriedInVain bytes blocks tried }
     ensures fault { result ≡ ending.WriteFault → Rose (K.faults sink.old) (K.faults sink.new) }

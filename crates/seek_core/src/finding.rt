@@ -4,7 +4,7 @@ ghost use Rattle.std.specs.List.{All};
 ghost use Rattle.knot_text.specs.Printed.{HasQuandleText};
 ghost use Rattle.certificate_check.specs.Decision.{IsFindingOf};
 ghost use Rattle.seek_core.specs.Found.{IsVerdictOn, IsFoundOn, IsSearchOf};
-ghost use Rattle.seek_core.specs.Sizes.{of_size, as_tried};
+ghost use Rattle.seek_core.specs.Sizes.{blocks_of_size, as_tried};
 
 use crate::blocks::Blocks;
 use crate::bounds::{Bounds, SHORT_STEPS};
@@ -105,7 +105,7 @@ fn said_before_larger<R: Threads + Sync, W: Watch>(
     watch: &mut W,
 ) -> Result<Option<Said>, OutOfMemory>
     requires { All HasQuandleText quandles.now }
-    ensures { IfOk result (λ o. IsFoundOn pair.now quandles.now (of_size false blocks.now) o) }
+    ensures { IfOk result (λ o. IsFoundOn pair.now quandles.now (blocks_of_size false blocks.now) o) }
 {
     let (front, others) = quandles.split_at(FIRST_QUANDLES.min(quandles.len()));
     let told = told_first(alloc, pair, front, blocks)?;
@@ -125,7 +125,7 @@ fn told_first(
     quandles: &[Listed],
     blocks: &[Block],
 ) -> Result<Option<Said>, OutOfMemory>
-    ensures { IfOk result (λ o. IsFoundOn pair.now quandles.now (of_size false blocks.now) o) }
+    ensures { IfOk result (λ o. IsFoundOn pair.now quandles.now (blocks_of_size false blocks.now) o) }
 {
     if let Some(evidence) = pair.told_by_linking(alloc)? {
         return Ok(Some(Said::Evidence(evidence)));

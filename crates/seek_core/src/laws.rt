@@ -16,11 +16,11 @@ ghost use Rattle.knot_text.specs.WrittenThere.{said_by};
 ghost use Rattle.linking_core.specs.Component.{components};
 ghost use Rattle.linking_core.specs.Linking.{linking};
 ghost use Rattle.evidence_core.specs.declared.blocks.Block.{Block};
-ghost use Rattle.number_check.specs.Holds.{numbers_by};
+ghost use Rattle.number_check.specs.EvidenceHolds.{numbers_by};
 ghost use Rattle.number_search.specs.declared.seed_pair.SeedPair.{SeedPair};
 ghost use Rattle.number_search.specs.Told.{ArePlansOf, fits_both};
 ghost use Rattle.seek_core.specs.Answers.{QuandlesTriedInVain, BlocksTriedInVain};
-ghost use Rattle.seek_core.specs.Candidates.{IsUnlisted, candidates};
+ghost use Rattle.seek_core.specs.Candidates.{IsUnlisted, candidate_quandles};
 ghost use Rattle.seek_core.specs.Formulas.{formula_quandles, HaveOwnTables, HaveTable, IsFactor, IsByFormula};
 ghost use Rattle.seek_core.specs.Parts.{joined, lines_in_turn};
 
@@ -60,15 +60,15 @@ pub fn quandles_by_formula_are_all_of_their_kinds()
 /// a listed one could bear the name of one by formula, and keep it from being tried.
 pub fn where_no_candidate_separates_no_quandle_does()
     ensures listed { (d e : Diagram) (listed : List NamedQuandle)
-        → first_separating d e (candidates d e listed) ≡ None
+        → first_separating d e (candidate_quandles d e listed) ≡ None
         → All (λ (q : NamedQuandle). separates d e q.table ≡ false) listed }
     ensures by_formula { (d e : Diagram) (listed : List NamedQuandle)
         → All (λ (q : NamedQuandle). Names q.name q.table) listed
-        → first_separating d e (candidates d e listed) ≡ None
+        → first_separating d e (candidate_quandles d e listed) ≡ None
         → All (λ (q : NamedQuandle). separates d e q.table ≡ false) formula_quandles }
     ensures first { (d e : Diagram) (listed : List NamedQuandle)
         → All (λ (q : NamedQuandle). Names q.name q.table) listed
-        → first_separating d e (candidates d e listed) ≡ first_separating d e (listed ++ formula_quandles) }
+        → first_separating d e (candidate_quandles d e listed) ≡ first_separating d e (listed ++ formula_quandles) }
 {}
 
 /// Where an input was tried in vain, neither a quandle of its problem nor one by formula separates its diagrams.
@@ -103,9 +103,9 @@ pub fn what_was_tried_in_vain_no_numbers_tell_apart()
 /// Each candidate fits both diagrams, and is a listed quandle, or one by formula whose name no listed one has: nothing else is tried.
 pub fn a_candidate_is_listed_or_by_formula()
     ensures fit { (d e : Diagram) (listed : List NamedQuandle)
-        → All (λ (q : NamedQuandle). (fits q.table d ≡ true) × (fits q.table e ≡ true)) (candidates d e listed) }
+        → All (λ (q : NamedQuandle). (fits q.table d ≡ true) × (fits q.table e ≡ true)) (candidate_quandles d e listed) }
     ensures kinds { (d e : Diagram) (listed : List NamedQuandle)
-        → All (λ (q : NamedQuandle). Contains listed q ⊎ IsUnlisted listed q) (candidates d e listed) }
+        → All (λ (q : NamedQuandle). Contains listed q ⊎ IsUnlisted listed q) (candidate_quandles d e listed) }
 {}
 
 /// Put together the parts say what each of them says, in their order: lines do not run into each other.

@@ -3,7 +3,7 @@ ghost use Rattle.std.specs.Prelude.{◌≡◌, IfOk, IfSome};
 ghost use Rattle.number_search.specs.Told.{ArePlansOf, told_by_linking, told_by_blocks};
 ghost use Rattle.pair_verdict.specs.Separates.{first_separating, IsSeparation};
 ghost use Rattle.seek_core.specs.Found.{IsEqualBy};
-ghost use Rattle.seek_core.specs.Sizes.{of_size};
+ghost use Rattle.seek_core.specs.Sizes.{blocks_of_size};
 
 use crate::bounds::Bounds;
 use crate::separating::first_separation;
@@ -65,7 +65,7 @@ impl<'a> Pair<'a> {
         blocks: &[Block],
         larger: bool,
     ) -> Result<Option<Evidence>, OutOfMemory>
-        ensures { IfOk result (λ o. o ≡ told_by_blocks self.now.first self.now.second self.now.seeds (of_size larger blocks.now)) }
+        ensures { IfOk result (λ o. o ≡ told_by_blocks self.now.first self.now.second self.now.seeds (blocks_of_size larger blocks.now)) }
     {
         tell_by_size(alloc, self.first, self.second, self.seeds, blocks, larger)
     }

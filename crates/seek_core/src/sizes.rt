@@ -2,7 +2,7 @@
 ghost use Rattle.std.specs.Prelude.{◌≡◌, [], ◌∷◌, IfOk};
 ghost use Rattle.std.specs.Bool.{beq};
 ghost use Rattle.number_search.specs.Told.{ArePlansOf, told_by_blocks};
-ghost use Rattle.seek_core.specs.Sizes.{is_larger, of_size};
+ghost use Rattle.seek_core.specs.Sizes.{is_larger, blocks_of_size};
 
 use grid_core::Grid;
 use memory_core::OutOfMemory;
@@ -22,7 +22,7 @@ pub(crate) fn tell_by_size(
     larger: bool,
 ) -> Result<Option<Evidence>, OutOfMemory>
     requires plans { ArePlansOf first.now second.now seeds.now }
-    ensures { IfOk result (λ o. o ≡ told_by_blocks first.now second.now seeds.now (of_size larger blocks.now)) }
+    ensures { IfOk result (λ o. o ≡ told_by_blocks first.now second.now seeds.now (blocks_of_size larger blocks.now)) }
 {
     for block in blocks {
         let evidence = told_by_one(alloc, first, second, seeds, block, larger)?;
@@ -43,7 +43,7 @@ fn told_by_one(
     larger: bool,
 ) -> Result<Option<Evidence>, OutOfMemory>
     requires plans { ArePlansOf first.now second.now seeds.now }
-    ensures { IfOk result (λ o. o ≡ told_by_blocks first.now second.now seeds.now (of_size larger (block.now ∷ []))) }
+    ensures { IfOk result (λ o. o ≡ told_by_blocks first.now second.now seeds.now (blocks_of_size larger (block.now ∷ []))) }
 {
     if is_of_size(block, larger) {
         return tell_apart_by_blocks(alloc, first, second, seeds, slice::from_ref(block));

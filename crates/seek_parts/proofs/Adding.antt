@@ -4,7 +4,7 @@ use Rattle.std.proofs.Common.{append_assoc}
 use Rattle.std.specs.Borrow.{Bor}
 use Rattle.std.proofs.lemmas.List.{map_more, map-append, take-append-drop}
 use Rattle.seek_parts.specs.declared.fault.PartFault.{PartFault}
-use Rattle.seek_parts.specs.Fault.{IsWanting, IsFaultOf}
+use Rattle.seek_parts.specs.Fault.{IsWanting, IsPartFaultOf}
 use Rattle.seek_parts.specs.Parts.{Told, Due, IsPartOf, AddsPartOf, ArePartsOf, quandles_due, quandle_due}
 
 one_more : (told : Told) (dues : List Due) (texts : List (List ℕ)) (due : Due) (bytes : List ℕ)
@@ -32,13 +32,13 @@ quandle_added told dues paths seen i d old new same lt are adds =
 
 -- ---- the first that can't be had
 
-pub alone : (told : Told) (due : Due) (back : List Due) (f : PartFault) → IsWanting told due f → IsFaultOf told (due ∷ back) f
+pub alone : (told : Told) (due : Due) (back : List Due) (f : PartFault) → IsWanting told due f → IsPartFaultOf told (due ∷ back) f
 alone told due back f wanting =
     record { front = []; due = due; back = back; split = refl; texts = []; had = tt; wanting = wanting }
 
 -- the second of two, where the first one was put behind nothing
 pub second_fault : (told : Told) (first second : Due) (old new : List (List ℕ)) (f : PartFault) → AddsPartOf told first old new
-    → IsWanting told second f → IsFaultOf told (first ∷ second ∷ []) f
+    → IsWanting told second f → IsPartFaultOf told (first ∷ second ∷ []) f
 second_fault told first second old new f adds wanting = record {
   front = first ∷ [];
   due = second;
@@ -50,7 +50,7 @@ second_fault told first second old new f adds wanting = record {
 }
 
 -- one of the diagrams, before files of quandles
-pub diagram_fault : (told : Told) (dues more : List Due) (f : PartFault) → IsFaultOf told dues f → IsFaultOf told (dues ++ more) f
+pub diagram_fault : (told : Told) (dues more : List Due) (f : PartFault) → IsPartFaultOf told dues f → IsPartFaultOf told (dues ++ more) f
 diagram_fault told dues more f fault = record {
   front = fault.front;
   due = fault.due;
@@ -77,7 +77,7 @@ parted dues paths i d lt =
 -- a file of quandles, of those that a loop sees
 pub path_fault : (told : Told) (dues : List Due) (paths seen : List (Bor (List ℕ))) (i : ℕ) (d : Bor (List ℕ)) (old : List (List ℕ)) (f : PartFault)
     → seen ≡ paths → i < length seen → ArePartsOf told (dues ++ quandles_due (take i paths)) old
-    → IsWanting told (quandle_due (get_or seen i d)) f → IsFaultOf told (dues ++ quandles_due paths) f
+    → IsWanting told (quandle_due (get_or seen i d)) f → IsPartFaultOf told (dues ++ quandles_due paths) f
 path_fault told dues paths seen i d old f same lt are wanting = record {
   front = dues ++ quandles_due (take i paths);
   due = quandle_due (get_or paths i d);

@@ -83,7 +83,7 @@ abbrev pub IsWanting : Told → Due → PartFault → Type 0
 IsWanting told due fault = HasNoText told due.given fault ⊎ (((due.is_one ≡ true) × IsNotOne told due.given fault) ⊎ (fault ≡ OutOfMemory))
 
 -- the first of the parts that are due which can't be had: those before it can
-pub record IsFaultOf (told : Told) (dues : List Due) (fault : PartFault) : Type 0 where
+pub record IsPartFaultOf (told : Told) (dues : List Due) (fault : PartFault) : Type 0 where
   pub front : List Due
   pub due : Due
   pub back : List Due

@@ -1,6 +1,6 @@
 //! The parts of an input, in their order, and their names.
 ghost use Rattle.std.specs.Prelude.{◌≡◌, ◌++◌, [], ◌∷◌, map, Some, slice_get, IfOk, IfErr, IfSome, OnOk};
-ghost use Rattle.seek_parts.specs.Fault.{IsFaultOf, IsWanting};
+ghost use Rattle.seek_parts.specs.Fault.{IsPartFaultOf, IsWanting};
 ghost use Rattle.seek_parts.specs.Parts.{AddsPartOf, ArePartsOf, diagrams_due, all_due};
 
 use crate::fault::PartFault;
@@ -39,7 +39,7 @@ impl<'a> Parts<'a> {
         asked: &Asked<'a>,
     ) -> Result<Parts<'a>, PartFault<'a>>
         ensures parts { IfOk result (λ parts. ArePartsOf (F.told files.now) (all_due asked.now) parts.texts) }
-        ensures fault { IfErr result (λ f. IsFaultOf (F.told files.now) (all_due asked.now) f) }
+        ensures fault { IfErr result (λ f. IsPartFaultOf (F.told files.now) (all_due asked.now) f) }
     {
         let mut all = Parts {
             texts: Vec::new(alloc),
@@ -79,7 +79,7 @@ impl<'a> Parts<'a> {
     ) -> Result<(), PartFault<'a>>
         requires { self.old.texts ≡ [] }
         ensures parts { OnOk result (ArePartsOf (F.told files.now) (all_due asked.now) self.new.texts) }
-        ensures fault { IfErr result (λ f. IsFaultOf (F.told files.now) (all_due asked.now) f) }
+        ensures fault { IfErr result (λ f. IsPartFaultOf (F.told files.now) (all_due asked.now) f) }
     {
         self.read_diagrams(alloc, files, asked.diagrams)?;
         for path in &asked.quandles {
@@ -98,7 +98,7 @@ impl<'a> Parts<'a> {
     ) -> Result<(), PartFault<'a>>
         requires { self.old.texts ≡ [] }
         ensures parts { OnOk result (ArePartsOf (F.told files.now) (diagrams_due diagrams.entry) self.new.texts) }
-        ensures fault { IfErr result (λ f. IsFaultOf (F.told files.now) (diagrams_due diagrams.entry) f) }
+        ensures fault { IfErr result (λ f. IsPartFaultOf (F.told files.now) (diagrams_due diagrams.entry) f) }
     {
         match diagrams {
             Diagrams::Problem(given) => self.read_problem(alloc, files, given),
@@ -115,7 +115,7 @@ impl<'a> Parts<'a> {
     ) -> Result<(), PartFault<'a>>
         requires { self.old.texts ≡ [] }
         ensures parts { OnOk result (ArePartsOf (F.told files.now) (diagrams_due (Diagrams.Problem given.entry)) self.new.texts) }
-        ensures fault { IfErr result (λ f. IsFaultOf (F.told files.now) (diagrams_due (Diagrams.Problem given.entry)) f) }
+        ensures fault { IfErr result (λ f. IsPartFaultOf (F.told files.now) (diagrams_due (Diagrams.Problem given.entry)) f) }
     {
         self.add(alloc, files, given, false, name_of(given))?;
         Ok(())
@@ -131,7 +131,7 @@ impl<'a> Parts<'a> {
     ) -> Result<(), PartFault<'a>>
         requires { self.old.texts ≡ [] }
         ensures parts { OnOk result (ArePartsOf (F.told files.now) (diagrams_due (Diagrams.Pair first.entry second.entry)) self.new.texts) }
-        ensures fault { IfErr result (λ f. IsFaultOf (F.told files.now) (diagrams_due (Diagrams.Pair first.entry second.entry)) f) }
+        ensures fault { IfErr result (λ f. IsPartFaultOf (F.told files.now) (diagrams_due (Diagrams.Pair first.entry second.entry)) f) }
     {
         let (first_name, second_name) = names_of(first, second);
         self.add(alloc, files, first, true, first_name)?;

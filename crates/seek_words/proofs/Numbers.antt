@@ -7,8 +7,8 @@ use Rattle.clap.specs.Matches.{ReadsOne, found_of}
 use Rattle.clap.specs.Walk.{Text, rows_of}
 use Rattle.clap.specs.declared.parser.matches.ArgMatches.{ArgMatches}
 use Rattle.clap.proofs.WalkLemmas.{one_text-rows}
-use Rattle.seek_words.specs.Matched.{FindsNumber, FindsNumbers, AreNumbersOf}
-use Rattle.knot_words.specs.Numbers.{number_of}
+use Rattle.seek_words.specs.Matched.{FindsNumber, FindsNumbers, AreGivenNumbers}
+use Rattle.knot_words.specs.OptionNumbers.{number_of_text}
 use Rattle.seek_words.specs.Words.{IsNumberBy, AreNumbersBy}
 use Rattle.seek_words.specs.declared.asked.Numbers.{Numbers}
 
@@ -26,14 +26,14 @@ found_by k (Some t) (Some n) none value =
 found_by k (Some t) None none value = λ n has.
     let same : has.text ≡ t = ap (λ (o : Option Text). unwrap_or o t) (sym has.is) in
     let below = subst (λ (x : ℕ). x < 2 ^ k) (sym has.number) has.most in
-    (value t refl).1.0 (subst (λ (x : Text). IsNumeral 10 (without_leading_plus x)) same has.numeral, subst (λ (x : Text). number_of x < 2 ^ k) same below)
+    (value t refl).1.0 (subst (λ (x : Text). IsNumeral 10 (without_leading_plus x)) same has.numeral, subst (λ (x : Text). number_of_text x < 2 ^ k) same below)
 
 -- where one option has no number
-pub none_found : (m : ArgMatches) (found : Option Numbers) → found ≡ None → ((numbers : Numbers) → AreNumbersOf m numbers → ⊥) → FindsNumbers m found
+pub none_found : (m : ArgMatches) (found : Option Numbers) → found ≡ None → ((numbers : Numbers) → AreGivenNumbers m numbers → ⊥) → FindsNumbers m found
 none_found m found is none = subst (FindsNumbers m) (sym is) none
 
 -- where the matches have no numbers, neither have their rows
-pub no_numbers : (m : ArgMatches) → ((numbers : Numbers) → AreNumbersOf m numbers → ⊥) → (seed steps room workers : ℕ)
+pub no_numbers : (m : ArgMatches) → ((numbers : Numbers) → AreGivenNumbers m numbers → ⊥) → (seed steps room workers : ℕ)
     → AreNumbersBy (rows_of (found_of m)) seed steps room workers → ⊥
 no_numbers m none seed steps room workers are =
     let f = found_of m in

@@ -16,7 +16,7 @@ use Rattle.seek_words.specs.declared.given.Given.{Given}
 use Rattle.seek_words.specs.declared.given.Given.TheVariants.{File, Braid, Code}
 use Rattle.seek_words.specs.declared.given.Diagrams.{Diagrams}
 use Rattle.seek_words.specs.declared.given.Diagrams.TheVariants.{Problem, Pair}
-use Rattle.seek_words.specs.Words.{Named, named, seek_app, AreNamedBy, AreWeightsBy, AsksBy, Asks, AsksNothing}
+use Rattle.seek_words.specs.Words.{Named, named, seek_app, AreNamedBy, AreWeightsBy, AsksBy, AsksOfSeek, AsksNothingOfSeek}
 use Rattle.seek_words.specs.Words.{is_input, is_input_given, diagram_inputs, inputs_read}
 
 -- ---- diagrams
@@ -89,7 +89,7 @@ among_none : (k : ErrorKind) (kinds : Kinds) → kinds ≡ [] → IsAmong k kind
 among_none k [] none among = among
 among_none k (x ∷ kinds) none among = cc
 
-pub never_both : (words : List Text) (asked : Asked) → Asks words asked → AsksNothing words → ⊥
+pub never_both : (words : List Text) (asked : Asked) → AsksOfSeek words asked → AsksNothingOfSeek words → ⊥
 never_both words asked asks (inl (k, (among, other))) = among_none k (fault_of seek_app words) asks.taken among
 never_both words asked asks (inr (taken, inl none)) = none asked.diagrams asks.by.diagrams
 never_both words asked asks (inr (taken, inr (inl none))) = none _ _ _ _ asks.by.numbers

@@ -7,8 +7,8 @@ use Rattle.clap.specs.Simple.{matches_of}
 use Rattle.clap.specs.Walk.{Text, first_of, one_of, all_of}
 use Rattle.clap.specs.declared.error.kind.ErrorKind.TheVariants as kind
 use Rattle.clap.proofs.OnLiterals.{clap_on_literals}
-use Rattle.knot_words.specs.Numbers.{number_of}
-use Rattle.seek_words.specs.Words.{seek_app, AsksNothing}
+use Rattle.knot_words.specs.OptionNumbers.{number_of_text}
+use Rattle.seek_words.specs.Words.{seek_app, AsksNothingOfSeek}
 
 abbrev line : List Text
 line = codes "seek" ∷ codes "--seed" ∷ codes "7" ∷ codes "a" ∷ codes "--quiet" ∷ codes "--steps=90" ∷ codes "--quandles" ∷ codes "q" ∷ codes "b" ∷ []
@@ -17,15 +17,15 @@ taken : fault_of seek_app line ≡ []
 unfolding clap_on_literals
 taken = refl
 
-seed : option_map number_of (one_of (codes "seed") (matches_of seek_app line)) ≡ Some 7
+seed : option_map number_of_text (one_of (codes "seed") (matches_of seek_app line)) ≡ Some 7
 unfolding clap_on_literals
 seed = refl
 
-steps : option_map number_of (one_of (codes "steps") (matches_of seek_app line)) ≡ Some 90
+steps : option_map number_of_text (one_of (codes "steps") (matches_of seek_app line)) ≡ Some 90
 unfolding clap_on_literals
 steps = refl
 
-room : option_map number_of (one_of (codes "room") (matches_of seek_app line)) ≡ Some 524288
+room : option_map number_of_text (one_of (codes "room") (matches_of seek_app line)) ≡ Some 524288
 unfolding clap_on_literals
 room = refl
 
@@ -75,7 +75,7 @@ unfolding clap_on_literals
 version = refl
 
 -- a request for help isn't refused
-help_is_shown : AsksNothing (codes "seek" ∷ codes "--help" ∷ []) → ⊥
+help_is_shown : AsksNothingOfSeek (codes "seek" ∷ codes "--help" ∷ []) → ⊥
 help_is_shown (inl (k, (among, other))) =
     other (elim (subst (λ (kinds : Kinds). IsAmong k kinds) help among) [
       | inl is ↦ inl is

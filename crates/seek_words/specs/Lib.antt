@@ -1,3 +1,3 @@
 pub mod Words
 pub mod Matched
-pub use Rattle.knot_words.specs.Numbers
+pub use Rattle.knot_words.specs.OptionNumbers

@@ -29,7 +29,7 @@ FindsNumber k given None = (n : ℕ) → IsNumberBy k given n → ⊥
 abbrev pub HasNumber : ℕ → ArgMatches → Text → ℕ → Type 0
 HasNumber k matches name n = IsNumberBy k (one_text (found_of matches) name) n
 
-pub record AreNumbersOf (matches : ArgMatches) (n : Numbers) : Type 0 where
+pub record AreGivenNumbers (matches : ArgMatches) (n : Numbers) : Type 0 where
   pub seed : HasNumber 64 matches (codes "seed") n.seed
   pub steps : HasNumber 64 matches (codes "steps") n.steps
   pub room : HasNumber 32 matches (codes "room") n.room
@@ -37,5 +37,5 @@ pub record AreNumbersOf (matches : ArgMatches) (n : Numbers) : Type 0 where
 
 -- the numbers of the options, or that one of them has none
 abbrev pub FindsNumbers : ArgMatches → Option Numbers → Type 0
-FindsNumbers matches (Some numbers) = AreNumbersOf matches numbers
-FindsNumbers matches None = (numbers : Numbers) → AreNumbersOf matches numbers → ⊥
+FindsNumbers matches (Some numbers) = AreGivenNumbers matches numbers
+FindsNumbers matches None = (numbers : Numbers) → AreGivenNumbers matches numbers → ⊥

@@ -11,7 +11,7 @@ use Rattle.clap.specs.declared.error.kind.ErrorKind.{ErrorKind}
 use Rattle.clap.specs.declared.error.kind.ErrorKind.TheVariants.{DisplayHelp, DisplayVersion}
 use Rattle.clap.specs.declared.builder.action.ArgAction.TheVariants.{Set, SetTrue, Append}
 use Rattle.clap.specs.declared.builder.value_parser.ValueParser.TheVariants as parser
-use Rattle.knot_words.specs.Numbers.{number_of, number_rule, seed_rule, workers_rule}
+use Rattle.knot_words.specs.OptionNumbers.{number_of_text, number_rule, seed_rule, workers_rule}
 use Rattle.seek_words.specs.declared.asked.Asked.{Asked}
 use Rattle.seek_words.specs.declared.given.Given.{Given}
 use Rattle.seek_words.specs.declared.given.Given.TheVariants.{File, Braid, Code}
@@ -117,7 +117,7 @@ pub record IsNumberBy (k : ℕ) (given : Option Text) (n : ℕ) : Type 0 where
   pub text : Text
   pub is : given ≡ Some text
   pub numeral : IsNumeral 10 (without_leading_plus text)
-  pub number : number_of text ≡ n
+  pub number : number_of_text text ≡ n
   pub most : n < 2 ^ k
 
 -- the options have these numbers
@@ -165,24 +165,24 @@ inputs_read asked = diagram_inputs asked.diagrams
 -- ---- the words
 
 -- `clap` takes the words: they have no fault
-abbrev pub AreTaken : List Text → Type 0
-AreTaken words = fault_of seek_app words ≡ []
+abbrev pub AreTakenBySeek : List Text → Type 0
+AreTakenBySeek words = fault_of seek_app words ≡ []
 
 -- the words are taken, and ask for this, by which standard input is read once at most
-pub record Asks (words : List Text) (asked : Asked) : Type 0 where
-  pub taken : AreTaken words
+pub record AsksOfSeek (words : List Text) (asked : Asked) : Type 0 where
+  pub taken : AreTakenBySeek words
   pub by : AsksBy (matches_of seek_app words) asked
   pub once : inputs_read asked ≤ 1
 
 -- ---- what words are answered with by `clap`
 
 -- an error that is the help or the version
-abbrev pub IsShown : ErrorKind → Type 0
-IsShown k = (k ≡ DisplayHelp) ⊎ (k ≡ DisplayVersion)
+abbrev pub IsHelpOrVersion : ErrorKind → Type 0
+IsHelpOrVersion k = (k ≡ DisplayHelp) ⊎ (k ≡ DisplayVersion)
 
 -- `clap` refuses the words: they have a fault that is neither the help nor the version
 abbrev pub AreRefused : List Text → Type 0
-AreRefused words = (k : ErrorKind) × (IsAmong k (fault_of seek_app words) × (IsShown k → ⊥))
+AreRefused words = (k : ErrorKind) × (IsAmong k (fault_of seek_app words) × (IsHelpOrVersion k → ⊥))
 
 -- the words ask for the help or the version
 abbrev pub AskForText : List Text → Type 0
@@ -203,5 +203,5 @@ AsksNothingBy rows =
     ⊎ (((seed steps room workers : ℕ) → AreNumbersBy rows seed steps room workers → ⊥) ⊎ ReadsTwice rows)
 
 -- `clap` refuses the words, or takes them, and what they ask for is nothing that can be done
-abbrev pub AsksNothing : List Text → Type 0
-AsksNothing words = AreRefused words ⊎ (AreTaken words × AsksNothingBy (matches_of seek_app words))
+abbrev pub AsksNothingOfSeek : List Text → Type 0
+AsksNothingOfSeek words = AreRefused words ⊎ (AreTakenBySeek words × AsksNothingBy (matches_of seek_app words))

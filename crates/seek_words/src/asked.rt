@@ -5,10 +5,11 @@ ghost use Rattle.clap.specs.Simple.{matches_of};
 ghost use Rattle.clap.specs.Values.{kind_of};
 ghost use Rattle.clap.specs.Walk.{rows_of, all_of};
 ghost use Rattle.clap.specs.declared.error.kind.ErrorKind.TheVariants as kind;
-ghost use Rattle.seek_words.specs.Matched.{AreNumbersOf, FindsNumber, FindsNumbers};
-ghost use Rattle.knot_words.specs.Numbers.{texts_of};
-ghost use Rattle.seek_words.specs.Words.{seek_app, all_named, AreNamedBy, AreWeightsBy, IsTalkBy, AreTaken, AsksBy, Asks, IsShown, AskForText, file_written};
-ghost use Rattle.seek_words.specs.Words.{AreRefused, AsksNothingBy, AsksNothing, inputs_read};
+ghost use Rattle.seek_words.specs.Matched.{AreGivenNumbers, FindsNumber, FindsNumbers};
+ghost use Rattle.knot_words.specs.OptionNumbers.{texts_of};
+ghost use Rattle.seek_words.specs.Words.{seek_app, all_named, AreNamedBy, AreWeightsBy, IsTalkBy, AreTakenBySeek, AsksBy, AsksOfSeek, IsHelpOrVersion};
+ghost use Rattle.seek_words.specs.Words.{AskForText, file_written};
+ghost use Rattle.seek_words.specs.Words.{AreRefused, AsksNothingBy, AsksNothingOfSeek, inputs_read};
 
 use crate::command::{
     NO_WEIGHTS, OUT, PROGRESS, QUANDLES, QUIET, ROOM, SEED, STEPS, WEIGHTS, WORKERS, command,
@@ -72,9 +73,9 @@ struct Numbers {
 /// the help, or the version. An error comes only where the words ask for one of these two, or for nothing that can be done, or memory is
 /// wanting. `words[0]` is the program's name.
 pub fn read_words<'a>(alloc: Global, words: &'a [String]) -> Result<Asked<'a>, Error>
-    ensures asks { IfOk result (λ asked. Asks (texts_of words.entry.now) asked) }
-    ensures shown { IfErr result (λ e. IsShown (kind_of e) → AskForText (texts_of words.entry.now)) }
-    ensures refused { IfErr result (λ e. (kind_of e ≡ kind.OutOfMemory) ⊎ (IsShown (kind_of e) ⊎ AsksNothing (texts_of words.entry.now))) }
+    ensures asks { IfOk result (λ asked. AsksOfSeek (texts_of words.entry.now) asked) }
+    ensures shown { IfErr result (λ e. IsHelpOrVersion (kind_of e) → AskForText (texts_of words.entry.now)) }
+    ensures refused { IfErr result (λ e. (kind_of e ≡ kind.OutOfMemory) ⊎ (IsHelpOrVersion (kind_of e) ⊎ AsksNothingOfSeek (texts_of words.entry.now))) }
 {
     let matches = parse(alloc, words)?;
     asked_by(alloc, &matches)
@@ -82,10 +83,10 @@ pub fn read_words<'a>(alloc: Global, words: &'a [String]) -> Result<Asked<'a>, E
 
 /// The matches of the words.
 fn parse<'a>(alloc: Global, words: &'a [String]) -> Result<ArgMatches<'a>, Error>
-    ensures taken { OnOk result (AreTaken (texts_of words.entry.now)) }
+    ensures taken { OnOk result (AreTakenBySeek (texts_of words.entry.now)) }
     ensures rows { IfOk result (λ m. rows_of (found_of m) ≡ matches_of seek_app (texts_of words.entry.now)) }
-    ensures shown { IfErr result (λ e. IsShown (kind_of e) → AskForText (texts_of words.entry.now)) }
-    ensures refused { IfErr result (λ e. (kind_of e ≡ kind.OutOfMemory) ⊎ (IsShown (kind_of e) ⊎ AreRefused (texts_of words.entry.now))) }
+    ensures shown { IfErr result (λ e. IsHelpOrVersion (kind_of e) → AskForText (texts_of words.entry.now)) }
+    ensures refused { IfErr result (λ e. (kind_of e ≡ kind.OutOfMemory) ⊎ (IsHelpOrVersion (kind_of e) ⊎ AreRefused (texts_of words.entry.now))) }
 {
     command(alloc)?.try_get_matches_from(words)
 }
@@ -93,7 +94,7 @@ fn parse<'a>(alloc: Global, words: &'a [String]) -> Result<ArgMatches<'a>, Error
 /// What matches ask for.
 #[tactic(auto, using(crate::proofs::Numbers::no_numbers))]
 fn asked_by<'a>(alloc: Global, matches: &ArgMatches<'a>) -> Result<Asked<'a>, Error>
-    ensures shown { IfErr result (λ e. IsShown (kind_of e) → ⊥) }
+    ensures shown { IfErr result (λ e. IsHelpOrVersion (kind_of e) → ⊥) }
     ensures refused { IfErr result (λ e. (kind_of e ≡ kind.OutOfMemory) ⊎ AsksNothingBy (rows_of (found_of matches.now))) }
     ensures asks { IfOk result (λ asked. AsksBy (rows_of (found_of matches.now)) asked) }
     ensures once { IfOk result (λ asked. inputs_read asked ≤ 1) }
@@ -118,7 +119,7 @@ fn asked_with<'a>(
     diagrams: Diagrams<'a>,
     numbers: Numbers,
 ) -> Result<Asked<'a>, AllocError>
-    requires numbers { AreNumbersOf matches.now numbers }
+    requires numbers { AreGivenNumbers matches.now numbers }
     requires diagrams { AreNamedBy (all_named (rows_of (found_of matches.now))) diagrams }
     ensures { IfOk result (λ asked. AsksBy (rows_of (found_of matches.now)) asked) }
 {

@@ -2,7 +2,7 @@
 ghost use Rattle.std.specs.Prelude.{◌≡◌, false, IfOk, codes};
 ghost use Rattle.clap.specs.Simple.{app_of, new_app};
 ghost use Rattle.clap.specs.Walk.{rule_of};
-ghost use Rattle.knot_words.specs.Numbers.{number_rule, seed_rule, workers_rule};
+ghost use Rattle.knot_words.specs.OptionNumbers.{number_rule, seed_rule, workers_rule};
 ghost use Rattle.seek_words.specs.Words.{files_rule, list_rule, text_rule, with_value_name, flag_rule, steps_rule, room_rule};
 ghost use Rattle.seek_words.specs.Words.{versioned, with_inputs, with_bounds, seek_app};
 

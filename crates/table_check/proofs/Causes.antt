@@ -29,9 +29,9 @@ use Rattle.table_check.specs.declared.cause.TableCause.{TableCause}
 use Rattle.table_check.specs.declared.cause.TableCause.TheVariants as cause
 use Rattle.table_check.specs.declared.cause.TableRuling.{TableRuling}
 use Rattle.table_check.specs.declared.cause.TableRuling.TheVariants.{Accepted, Rejected}
-use Rattle.table_check.specs.Holds.{numbers_at, counted, IsShown, ShownAt, ClassHolds, Differ, PairHolds, RowAt, Holds}
-use Rattle.table_check.specs.Cause.{in_block, shown_cause, FailsBy, IsClassCause, PairFails, RowFails, IsCause}
-use Rattle.table_check.specs.Ruling.{RulesOn}
+use Rattle.table_check.specs.TableHolds.{numbers_at, counted_of_class, IsShown, ShownAt, ClassHolds, Differ, PairHolds, RowAt, TableHolds}
+use Rattle.table_check.specs.Cause.{in_block, shown_cause, FailsBy, IsClassCause, PairFails, RowFails, IsTableCause}
+use Rattle.table_check.specs.Ruling.{RulesOnTable}
 
 -- ---- numbers by a block
 
@@ -44,13 +44,13 @@ pub shown_of_none : (c : Class) (at : ℕ) (b : Block) (o : Option (List ℕ)) �
     → shown_cause c at b o ≡ None → IsShown c b o
 shown_of_none c at b None settled none = tt
 shown_of_none c at b (Some numbers) settled none =
-    numbers_hold b 1 (grid_of c.diagram) (counted c numbers) settled
+    numbers_hold b 1 (grid_of c.diagram) (counted_of_class c numbers) settled
     (no_map (in_block at) (settled_cause b 1 (grid_of c.diagram) (length c.seeds.items) numbers) none)
 
 -- and where they are shown, there is none
 pub none_of_shown : (c : Class) (at : ℕ) (b : Block) (o : Option (List ℕ)) → IsShown c b o → shown_cause c at b o ≡ None
 none_of_shown c at b None shown = refl
-none_of_shown c at b (Some numbers) shown = rw (numbers_faultless b 1 (grid_of c.diagram) (counted c numbers) shown) refl
+none_of_shown c at b (Some numbers) shown = rw (numbers_faultless b 1 (grid_of c.diagram) (counted_of_class c numbers) shown) refl
 
 -- so they are by a block at a place
 pub shown_here : (blocks : List Block) (c : Class) (at : ℕ) (x b : Block) (d : Diagram) → d ≡ grid_of c.diagram → Determine c.seeds.items d
@@ -161,7 +161,7 @@ row_not_held t at why fails holds =
     (accepted_where_held (grid_of fails.row.diagram) (grid_of fails.class.diagram) (Equal fails.row.moves) (moves.Rejected why) fails.cause).1 joined in
     cc
 
-pub not_held : (t : KnotTable) (why : TableCause) → IsCause t why → Holds t → ⊥
+pub not_held : (t : KnotTable) (why : TableCause) → IsTableCause t why → TableHolds t → ⊥
 not_held t (cause.Class at why) is holds =
     let fails = is.1 in
     class_not_held t.blocks fails.class why fails.cause (holds.classes at (slice_get_within t.classes at fails.class fails.here) fails.class fails.here)
@@ -173,10 +173,10 @@ not_held t (cause.Row at why) is holds =
     let fails = is.1.1.1 in
     row_not_held t at why fails (holds.rows at (slice_get_within t.rows at fails.row fails.here))
 
-pub accepted_where_table_holds : (t : KnotTable) (ruling : TableRuling) → RulesOn t ruling → (ruling ≡ Accepted) ↔ Holds t
+pub accepted_where_table_holds : (t : KnotTable) (ruling : TableRuling) → RulesOnTable t ruling → (ruling ≡ Accepted) ↔ TableHolds t
 accepted_where_table_holds t Accepted rules = ((λ is. rules), (λ holds. refl))
 accepted_where_table_holds t (Rejected why) rules = ((λ is. absurd cc), (λ holds. absurd (not_held t why rules holds)))
 
 -- an accepted table holds
-pub holds_where_accepted : (t : KnotTable) (ruling : TableRuling) → RulesOn t ruling → ruling ≡ Accepted → Holds t
+pub holds_where_accepted : (t : KnotTable) (ruling : TableRuling) → RulesOnTable t ruling → ruling ≡ Accepted → TableHolds t
 holds_where_accepted t ruling rules is = (accepted_where_table_holds t ruling rules).0 is

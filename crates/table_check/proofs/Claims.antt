@@ -12,9 +12,10 @@ use Rattle.evidence_core.specs.declared.blocks.Block.{Block}
 use Rattle.verdict_core.specs.Diagrams.{grid_of}
 use Rattle.number_check.proofs.Rulings.{numbers_apart}
 use Rattle.table_check.specs.declared.class_items.Class.{Class}
-use Rattle.table_check.specs.declared.row_items.Row.{Row}
+use Rattle.table_check.specs.declared.row_items.KnotRow.{KnotRow}
 use Rattle.table_check.specs.declared.tables.KnotTable.{KnotTable}
-use Rattle.table_check.specs.Holds.{numbers_at, counted, IsShown, ClassHolds, Differ, AreToldApart, Holds, RowsJoined, ClassesApart, RowsApart}
+use Rattle.table_check.specs.TableHolds.{numbers_at, counted_of_class, IsShown, ClassHolds, Differ, AreToldApart, TableHolds, RowsJoined, ClassesApart}
+use Rattle.table_check.specs.TableHolds.{RowsApart}
 
 -- each place of a list has an element
 element : {X : Type 0} (xs : List X) (i : ℕ) → i < length xs → (x : X) × (slice_get xs i ≡ Some x)
@@ -33,13 +34,13 @@ of_each P xs i x all here = subst P (get_or_from_slice_get xs i x x here) (All-g
 
 -- ---- rows of one class
 
-row_joined : (t : KnotTable) → Holds t → (r : Row) (c : Class) → Contains t.rows r → slice_get t.classes r.class ≡ Some c
+row_joined : (t : KnotTable) → TableHolds t → (r : KnotRow) (c : Class) → Contains t.rows r → slice_get t.classes r.class ≡ Some c
     → Joins (grid_of r.diagram) r.moves (grid_of c.diagram)
 row_joined t holds r c among known =
     let at = place t.rows r among in
     holds.rows at.0 at.1.0 r at.1.1 c known
 
-pub rows_joined : (t : KnotTable) → Holds t → RowsJoined t
+pub rows_joined : (t : KnotTable) → TableHolds t → RowsJoined t
 rows_joined t holds = record {
   to_class = λ r c among known. row_joined t holds r c among known;
   to_row = λ r s c among_r among_s known same.
@@ -59,7 +60,7 @@ numbers_apart_by b c d None None quandle cocycle first second differ joined = di
 numbers_apart_by b c d None (Some two) quandle cocycle first second differ joined = differ
 numbers_apart_by b c d (Some one) None quandle cocycle first second differ joined = differ
 numbers_apart_by b c d (Some one) (Some two) quandle cocycle first second differ joined =
-    numbers_apart (grid_of c.diagram) (grid_of d.diagram) b (counted c one) (counted d two) quandle cocycle
+    numbers_apart (grid_of c.diagram) (grid_of d.diagram) b (counted_of_class c one) (counted_of_class d two) quandle cocycle
     (record { first = first; second = second; differ = differ }) joined
 
 told_apart : (blocks : List Block) (c d : Class) → AreLawful blocks → ClassHolds blocks c → ClassHolds blocks d → AreToldApart blocks c d
@@ -71,7 +72,7 @@ told_apart blocks c d lawful one two told joined =
     (of_each (λ (b : Block). IsCocycleOrNone b.cocycle) blocks told.at block.0 lawful.1 block.1)
     (one.shown told.at told.within block.0 block.1) (two.shown told.at told.within block.0 block.1) told.differ joined
 
-pub classes_apart : (t : KnotTable) → AreLawful t.blocks → Holds t → ClassesApart t
+pub classes_apart : (t : KnotTable) → AreLawful t.blocks → TableHolds t → ClassesApart t
 classes_apart t lawful holds = λ one two c d here there other closed joined.
     let first = slice_get_within t.classes one c here in
     let second = slice_get_within t.classes two d there in
@@ -88,7 +89,7 @@ classes_apart t lawful holds = λ one two c d here there other closed joined.
       ]
     ]
 
-pub rows_apart : (t : KnotTable) → AreLawful t.blocks → Holds t → RowsApart t
+pub rows_apart : (t : KnotTable) → AreLawful t.blocks → TableHolds t → RowsApart t
 rows_apart t lawful holds = λ r s among_r among_s known_r known_s other closed joined.
     let one = element t.classes r.class known_r in
     let two = element t.classes s.class known_s in

@@ -1,11 +1,11 @@
 -- A table of knots is answered by the ruling on it.
 use Rattle.std.specs.Prelude.{◌≡◌, ℕ, List, Ok}
 use Rattle.table_check.specs.declared.tables.KnotTable.{KnotTable}
-use Rattle.table_check.specs.Tables.{table_of, RowsHaveClasses}
+use Rattle.table_check.specs.Tables.{knot_table_of, RowsHaveClasses}
 use Rattle.table_check.specs.declared.cause.TableRuling.{TableRuling}
 use Rattle.table_check.specs.declared.cause.TableRuling.TheVariants.{Accepted, Rejected}
-use Rattle.table_check.specs.Holds.{RowsJoined, ClassesApart, RowsApart}
-use Rattle.table_check.specs.Ruling.{RulesOn}
+use Rattle.table_check.specs.TableHolds.{RowsJoined, ClassesApart, RowsApart}
+use Rattle.table_check.specs.Ruling.{RulesOnTable}
 use Rattle.reply_text.specs.declared.reply.PlainReply.{PlainReply}
 use Rattle.reply_text.specs.Reply.{plain_reply}
 use Rattle.knot_ports.specs.declared.status.Status.{Status}
@@ -19,7 +19,7 @@ table_ruling_status (Rejected cause) = status.Rejected
 -- the ruling on a table
 pub record AnswersTable (table : KnotTable) (reply : PlainReply) : Type 0 where
   pub ruling : TableRuling
-  pub rules : RulesOn table ruling
+  pub rules : RulesOnTable table ruling
   pub is : reply ≡ plain_reply (table_ruling_status ruling) (table_ruling_line ruling)
 
 -- what a table claims is true: each row has a class, rows of one class are joined by moves, and no list of moves joins the diagrams or the rows
@@ -33,5 +33,5 @@ pub record IsTrueTable (table : KnotTable) : Type 0 where
 -- the bytes are a table, and what it claims is true
 pub record IsTableCertificate (bytes : List ℕ) : Type 0 where
   pub table : KnotTable
-  pub read : table_of bytes ≡ Ok table
+  pub read : knot_table_of bytes ≡ Ok table
   pub is_true : IsTrueTable table

@@ -14,13 +14,13 @@ use Rattle.number_check.specs.Cause.{settled_cause}
 use Rattle.cert_check.specs.declared.ruling.Why.{Why}
 use Rattle.cert_check.specs.Cause as moves
 use Rattle.table_check.specs.declared.class_items.Class.{Class}
-use Rattle.table_check.specs.declared.row_items.Row.{Row}
+use Rattle.table_check.specs.declared.row_items.KnotRow.{KnotRow}
 use Rattle.table_check.specs.declared.tables.KnotTable.{KnotTable}
 use Rattle.table_check.specs.declared.cause.ClassCause.{ClassCause}
 use Rattle.table_check.specs.declared.cause.ClassCause.TheVariants.{Outside, Unsettled, Wide, Numbers}
 use Rattle.table_check.specs.declared.cause.TableCause.{TableCause}
 use Rattle.table_check.specs.declared.cause.TableCause.TheVariants as cause
-use Rattle.table_check.specs.Holds.{numbers_at, ShownAt, ClassesHold, AreToldApart, PairsWith, PairsHold, RowsHold}
+use Rattle.table_check.specs.TableHolds.{numbers_at, ShownAt, ClassesHold, AreToldApart, PairsWith, PairsHold, RowsHold}
 
 -- ---- classes
 
@@ -71,16 +71,16 @@ pub record PairFails (t : KnotTable) (first second : ℕ) : Type 0 where
 
 -- the moves of the row at this place do not lead to the diagram of its class, for this cause
 pub record RowFails (t : KnotTable) (at : ℕ) (why : Why) : Type 0 where
-  pub row : Row
+  pub row : KnotRow
   pub class : Class
   pub here : slice_get t.rows at ≡ Some row
   pub known : slice_get t.classes row.class ≡ Some class
-  pub cause : moves.IsCause (grid_of row.diagram) (grid_of class.diagram) (Equal row.moves) why
+  pub cause : moves.IsVerdictCause (grid_of row.diagram) (grid_of class.diagram) (Equal row.moves) why
 
 -- ---- a table
 
-abbrev pub IsCause : KnotTable → TableCause → Type 0
-IsCause t (cause.Class at why) = ClassesHold t at × ClassFails t at why
-IsCause t (cause.Same first second) =
+abbrev pub IsTableCause : KnotTable → TableCause → Type 0
+IsTableCause t (cause.Class at why) = ClassesHold t at × ClassFails t at why
+IsTableCause t (cause.Same first second) =
     ClassesHold t (length t.classes) × (PairsHold t first × (PairsWith t first second × PairFails t first second))
-IsCause t (cause.Row at why) = ClassesHold t (length t.classes) × (PairsHold t (length t.classes) × (RowsHold t at × RowFails t at why))
+IsTableCause t (cause.Row at why) = ClassesHold t (length t.classes) × (PairsHold t (length t.classes) × (RowsHold t at × RowFails t at why))

@@ -1,5 +1,5 @@
 pub mod Tables
-pub mod Holds
+pub mod TableHolds
 pub mod Cause
 pub mod Ruling
 pub mod Lines
@@ -11,7 +11,7 @@ pub use Rattle.verdict_text.specs.Moves
 pub use Rattle.number_text.specs.Evidence
 pub use Rattle.number_text.specs.Blocks
 pub use Rattle.verdict_core.specs.Diagrams as Given
-pub use Rattle.number_check.specs.Holds as NumberHolds
+pub use Rattle.number_check.specs.EvidenceHolds as NumberHolds
 pub use Rattle.number_check.specs.Cause as NumberCause
 pub use Rattle.colour_seeds.specs.Settled
 pub use Rattle.colour_seeds.specs.Seeded

@@ -12,11 +12,11 @@ use Rattle.text_items.specs.Reading.{◌>>=◌, in_turn, next_line, word, number
 use Rattle.verdict_text.specs.Diagrams.{diagram_item}
 use Rattle.verdict_text.specs.Moves.{moves_item}
 use Rattle.evidence_core.specs.declared.blocks.Block.{Block}
-use Rattle.number_text.specs.Evidence.{seeds_at, numbers_at, count_of}
+use Rattle.number_text.specs.Evidence.{seeds_at, numbers_line_at, count_of}
 use Rattle.number_text.specs.Blocks.{block_item}
 use Rattle.table_check.specs.declared.class_items.Class.{Class}
 use Rattle.table_check.specs.declared.row_items.OpenPair.{OpenPair}
-use Rattle.table_check.specs.declared.row_items.Row.{Row}
+use Rattle.table_check.specs.declared.row_items.KnotRow.{KnotRow}
 use Rattle.table_check.specs.declared.tables.KnotTable.{KnotTable}
 use Rattle.table_check.specs.declared.tables.TheConstants.{FOURTH_VERSION}
 
@@ -45,7 +45,7 @@ blocks_item text = do
 unfoldable pub numbers_item : ℕ → Text → Result (Option (List ℕ) × Text) TextFault
 numbers_item due text = do
   line ← next_line text
-  list ← numbers_at due line.0
+  list ← numbers_line_at due line.0
   Ok (Some list, line.1)
 
 -- `wide` and a number: nothing is said
@@ -116,7 +116,7 @@ class_at classes line = do
   if nat_lt class classes then Ok class else Err (Malformed line.number)
 
 -- a diagram, its class, and moves
-unfoldable pub row_item : ℕ → Text → Result (Row × Text) TextFault
+unfoldable pub row_item : ℕ → Text → Result (KnotRow × Text) TextFault
 row_item classes text = do
   diagram ← diagram_item text
   line ← next_line diagram.1
@@ -125,8 +125,8 @@ row_item classes text = do
   Ok (record { diagram = diagram.0; class = class; moves = moves.0 }, moves.1)
 
 -- `rows`, a number, and so many rows
-unfoldable pub rows_item : ℕ → Text → Result (List Row × Text) TextFault
-rows_item classes text = do
+unfoldable pub knot_rows_item : ℕ → Text → Result (List KnotRow × Text) TextFault
+knot_rows_item classes text = do
   count ← how_many (codes "rows") text
   in_turn (row_item classes) count.0 count.1
 
@@ -161,13 +161,13 @@ table_in text = do
   blocks ← blocks_item head.1
   classes ← classes_item blocks.0 blocks.1
   left ← left_item (length classes.0) classes.1
-  rows ← rows_item (length classes.0) left.1
+  rows ← knot_rows_item (length classes.0) left.1
   end ← text_end rows.1
   Ok (record { blocks = blocks.0; classes = classes.0; left = left.0; rows = rows.0 })
 
-abbrev pub table_of : List ℕ → Result KnotTable TextFault
-table_of bytes = table_in (text_of bytes)
+abbrev pub knot_table_of : List ℕ → Result KnotTable TextFault
+knot_table_of bytes = table_in (text_of bytes)
 
 -- each row has one of the classes of its table
 abbrev pub RowsHaveClasses : KnotTable → Type 0
-RowsHaveClasses table = All (λ (r : Row). r.class < length table.classes) table.rows
+RowsHaveClasses table = All (λ (r : KnotRow). r.class < length table.classes) table.rows

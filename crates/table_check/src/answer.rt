@@ -1,6 +1,6 @@
 //! The answer to the bytes of a table.
 ghost use Rattle.std.specs.Prelude.{◌≡◌, IfOk};
-ghost use Rattle.table_check.specs.Tables.{table_of, RowsHaveClasses};
+ghost use Rattle.table_check.specs.Tables.{knot_table_of, RowsHaveClasses};
 ghost use Rattle.reply_text.specs.Reply.{plain_reply, AnswersRead};
 ghost use Rattle.table_check.specs.Lines.{table_ruling_line};
 ghost use Rattle.table_check.specs.Answer.{table_ruling_status, AnswersTable, IsTrueTable, IsTableCertificate};
@@ -16,7 +16,7 @@ use std::alloc::{AllocError, Global};
 /// The answer to the bytes of a table: `Done` where it was accepted, and is true, or `Rejected` with the first cause; or the reply that names
 /// the first bad line. The error comes where memory is wanting.
 pub fn answer_table(alloc: Global, bytes: &[u8]) -> Result<PlainReply, AllocError>
-    ensures answer { IfOk result (λ reply. AnswersRead AnswersTable (table_of bytes.now) reply) }
+    ensures answer { IfOk result (λ reply. AnswersRead AnswersTable (knot_table_of bytes.now) reply) }
     ensures claim { IfOk result (λ reply. reply.status ≡ Status.Done → IsTableCertificate bytes.now) }
 {
     match read_table(alloc, bytes) {

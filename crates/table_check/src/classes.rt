@@ -5,8 +5,8 @@ ghost use Rattle.colour_seeds.specs.Settled.{Determine};
 ghost use Rattle.colour_seeds.specs.Plan.{IsPlan, seeds_in};
 ghost use Rattle.evidence_core.specs.declared.blocks.Block.{Block};
 ghost use Rattle.verdict_core.specs.Diagrams.{grid_of};
-ghost use Rattle.table_check.specs.Holds.{numbers_at, ShownAt, ClassHolds, ClassAt, ClassesHold};
-ghost use Rattle.table_check.specs.Cause.{shown_cause, FailsBy, IsClassCause, ClassFails, IsCause};
+ghost use Rattle.table_check.specs.TableHolds.{numbers_at, ShownAt, ClassHolds, ClassAt, ClassesHold};
+ghost use Rattle.table_check.specs.Cause.{shown_cause, FailsBy, IsClassCause, ClassFails, IsTableCause};
 
 use crate::cause::{ClassCause, TableCause};
 use crate::class_items::Class;
@@ -23,7 +23,7 @@ pub(crate) fn classes_cause(
     alloc: Global,
     table: &KnotTable,
 ) -> Result<Option<TableCause>, OutOfMemory>
-    ensures some { IfOk result (λ o. IfSome o (λ cause. IsCause table.now cause)) }
+    ensures some { IfOk result (λ o. IfSome o (λ cause. IsTableCause table.now cause)) }
     ensures none { IfOk result (λ o. o ≡ None → ClassesHold table.now (length table.now.classes)) }
 {
     for at in 0..table.classes.as_slice().len() {

@@ -19,6 +19,6 @@ pub use cause::{ClassCause, TableCause, TableRuling};
 pub use cert_check::Why;
 pub use class_items::Class;
 pub use lines::table_ruling_line;
-pub use row_items::{OpenPair, Row};
+pub use row_items::{KnotRow, OpenPair};
 pub use ruling::rule;
 pub use tables::{FOURTH_VERSION, KnotTable, begins_table, read_table};

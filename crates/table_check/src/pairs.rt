@@ -1,8 +1,8 @@
 //! The ruling on the pairs of classes of a table.
 ghost use Rattle.std.specs.Prelude.{◌≡◌, true, false, None, IfSome, length};
 ghost use Rattle.std.specs.List.{Contains, slice_get};
-ghost use Rattle.table_check.specs.Holds.{numbers_at, Differ, AreToldApart, PairHolds, PairsWith, PairsHold, ClassesHold};
-ghost use Rattle.table_check.specs.Cause.{PairFails, IsCause};
+ghost use Rattle.table_check.specs.TableHolds.{numbers_at, Differ, AreToldApart, PairHolds, PairsWith, PairsHold, ClassesHold};
+ghost use Rattle.table_check.specs.Cause.{PairFails, IsTableCause};
 
 use crate::cause::TableCause;
 use crate::class_items::Class;
@@ -14,7 +14,7 @@ use evidence_core::{Block, first_unequal};
 /// Why the pairs of classes of a table, whose classes hold, don't: the first cause, if there is one.
 pub(crate) fn pairs_cause(table: &KnotTable) -> Option<TableCause>
     requires classes { ClassesHold table.now (length table.now.classes) }
-    ensures some { IfSome result (λ cause. IsCause table.now cause) }
+    ensures some { IfSome result (λ cause. IsTableCause table.now cause) }
     ensures none { result ≡ None → PairsHold table.now (length table.now.classes) }
 {
     for first in 0..table.classes.as_slice().len() {

@@ -2,7 +2,7 @@
 ghost use Rattle.std.specs.Prelude.{◌≡◌, ◌<◌, IfOk};
 ghost use Rattle.std.specs.List.{All};
 ghost use Rattle.text_items.specs.Reading.{Gives, in_turn};
-ghost use Rattle.table_check.specs.Tables.{pair_at, pair_item, left_item, class_at, row_item, rows_item};
+ghost use Rattle.table_check.specs.Tables.{pair_at, pair_item, left_item, class_at, row_item, knot_rows_item};
 
 use crate::heads::how_many;
 use grid_moves::Move;
@@ -23,7 +23,7 @@ pub struct OpenPair {
 
 /// A row of a table: a diagram, its class, counted from 0, and moves to the diagram that stands for the class.
 #[derive(Drop)]
-pub struct Row {
+pub struct KnotRow {
     pub diagram: Diagram,
     pub class: u32,
     pub moves: Items<Move>,
@@ -106,7 +106,7 @@ fn class_at(classes: usize, line: &mut Line) -> Result<u32, TextFault>
 
 /// A row.
 #[tactic(auto, unfolding(crate::specs::Tables::row_item))]
-fn row_item(alloc: Global, classes: usize, lines: &mut Lines) -> Result<Row, TextFault>
+fn row_item(alloc: Global, classes: usize, lines: &mut Lines) -> Result<KnotRow, TextFault>
     ensures read { Gives (λ r. (r, lines.new)) result (row_item classes lines.old) }
     ensures known { IfOk result (λ r. r.class < classes) }
 {
@@ -114,7 +114,7 @@ fn row_item(alloc: Global, classes: usize, lines: &mut Lines) -> Result<Row, Tex
     let mut line = next_line(lines)?;
     let class = class_at(classes, &mut line)?;
     let moves = moves_item(alloc, lines)?;
-    Ok(Row {
+    Ok(KnotRow {
         diagram,
         class,
         moves: Items::from_vec(moves),
@@ -127,7 +127,7 @@ fn row_items(
     count: u32,
     classes: usize,
     lines: &mut Lines,
-) -> Result<Vec<Row>, TextFault>
+) -> Result<Vec<KnotRow>, TextFault>
     ensures read { Gives (λ v. (v.items, lines.new)) result (in_turn (row_item classes) count lines.old) }
     ensures known { IfOk result (λ v. All (λ r. r.class < classes) v.items) }
 {
@@ -139,13 +139,13 @@ fn row_items(
 }
 
 /// The number of rows, and the rows.
-#[tactic(auto, unfolding(crate::specs::Tables::rows_item))]
+#[tactic(auto, unfolding(crate::specs::Tables::knot_rows_item))]
 pub(crate) fn rows_item(
     alloc: Global,
     classes: usize,
     lines: &mut Lines,
-) -> Result<Vec<Row>, TextFault>
-    ensures read { Gives (λ v. (v.items, lines.new)) result (rows_item classes lines.old) }
+) -> Result<Vec<KnotRow>, TextFault>
+    ensures read { Gives (λ v. (v.items, lines.new)) result (knot_rows_item classes lines.old) }
     ensures known { IfOk result (λ v. All (λ r. r.class < classes) v.items) }
 {
     let count = how_many(b"rows", lines)?;

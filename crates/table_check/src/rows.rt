@@ -1,7 +1,7 @@
 //! The ruling on the rows of a table.
 ghost use Rattle.std.specs.Prelude.{◌≡◌, None, IfSome, length};
-ghost use Rattle.table_check.specs.Holds.{ClassesHold, PairsHold, RowAt, RowsHold};
-ghost use Rattle.table_check.specs.Cause.{RowFails, IsCause};
+ghost use Rattle.table_check.specs.TableHolds.{ClassesHold, PairsHold, RowAt, RowsHold};
+ghost use Rattle.table_check.specs.Cause.{RowFails, IsTableCause};
 
 use crate::cause::TableCause;
 use crate::tables::KnotTable;
@@ -11,7 +11,7 @@ use cert_check::{Ruling, Why, check_moves};
 pub(crate) fn rows_cause(table: &KnotTable) -> Option<TableCause>
     requires classes { ClassesHold table.now (length table.now.classes) }
     requires pairs { PairsHold table.now (length table.now.classes) }
-    ensures some { IfSome result (λ cause. IsCause table.now cause) }
+    ensures some { IfSome result (λ cause. IsTableCause table.now cause) }
     ensures none { result ≡ None → RowsHold table.now (length table.now.rows) }
 {
     for row in 0..table.rows.as_slice().len() {

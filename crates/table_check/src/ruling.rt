@@ -4,8 +4,8 @@ ghost use Rattle.std.specs.List.{All};
 ghost use Rattle.quandle_core.specs.Quandle.{IsQuandle};
 ghost use Rattle.colour_numbers.specs.Numbers.{IsCocycleOrNone};
 ghost use Rattle.evidence_core.specs.declared.blocks.Block.{Block};
-ghost use Rattle.table_check.specs.Holds.{Holds, RowsJoined, ClassesApart, RowsApart};
-ghost use Rattle.table_check.specs.Ruling.{RulesOn};
+ghost use Rattle.table_check.specs.TableHolds.{TableHolds, RowsJoined, ClassesApart, RowsApart};
+ghost use Rattle.table_check.specs.Ruling.{RulesOnTable};
 
 use crate::cause::TableRuling;
 use crate::classes::classes_cause;
@@ -27,8 +27,8 @@ use std::alloc::Global;
 ///
 /// The colourings of each class by each block are counted once, and each move is made once.
 pub fn rule(alloc: Global, table: &KnotTable) -> Result<TableRuling, OutOfMemory>
-    ensures ruling { IfOk result (λ r. RulesOn table.now r) }
-    ensures accepted { IfOk result (λ r. (r ≡ TableRuling.Accepted) ↔ Holds table.now) }
+    ensures ruling { IfOk result (λ r. RulesOnTable table.now r) }
+    ensures accepted { IfOk result (λ r. (r ≡ TableRuling.Accepted) ↔ TableHolds table.now) }
     ensures joined { IfOk result (λ r. r ≡ TableRuling.Accepted → RowsJoined table.now) }
     ensures classes { IfOk result (λ r. r ≡ TableRuling.Accepted → ClassesApart table.now) }
     ensures apart { IfOk result (λ r. r ≡ TableRuling.Accepted → RowsApart table.now) }
@@ -40,7 +40,7 @@ pub fn rule(alloc: Global, table: &KnotTable) -> Result<TableRuling, OutOfMemory
 
 /// The ruling by the definition.
 fn ruled(alloc: Global, table: &KnotTable) -> Result<TableRuling, OutOfMemory>
-    ensures ruling { IfOk result (λ r. RulesOn table.now r) }
+    ensures ruling { IfOk result (λ r. RulesOnTable table.now r) }
 {
     if let Some(cause) = classes_cause(alloc, table)? {
         return Ok(TableRuling::Rejected(cause));

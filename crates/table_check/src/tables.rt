@@ -3,10 +3,10 @@ ghost use Rattle.std.specs.Prelude.{◌≡◌, IfOk};
 ghost use Rattle.text_items.specs.Reading.{Gives, in_turn};
 ghost use Rattle.number_text.specs.Blocks.{block_item};
 ghost use Rattle.quandle_core.specs.declared.operations.TheConstants.{MAX_LARGE_ORDER};
-ghost use Rattle.table_check.specs.Tables.{is_fourth_line, begins_table, fourth_at, blocks_item, table_of, RowsHaveClasses};
+ghost use Rattle.table_check.specs.Tables.{is_fourth_line, begins_table, fourth_at, blocks_item, knot_table_of, RowsHaveClasses};
 
 use crate::class_items::{Class, classes_item};
-use crate::row_items::{OpenPair, Row, left_item, rows_item};
+use crate::row_items::{KnotRow, OpenPair, left_item, rows_item};
 use evidence_core::Block;
 use memory_core::Items;
 use number_text::block_item;
@@ -25,7 +25,7 @@ pub struct KnotTable {
     pub blocks: Items<Block>,
     pub classes: Items<Class>,
     pub left: Items<OpenPair>,
-    pub rows: Items<Row>,
+    pub rows: Items<KnotRow>,
 }
 
 /// Whether a line is `certificate 4`.
@@ -92,7 +92,7 @@ fn blocks_item(alloc: Global, lines: &mut Lines) -> Result<Vec<Block>, TextFault
 /// A table of knots, behind its head line. Else the fault of the first bad line, or want of memory. The class of each row is one of the table's.
 #[tactic(auto, unfolding(crate::specs::Tables::table_in))]
 pub fn read_table(alloc: Global, bytes: &[u8]) -> Result<KnotTable, TextFault>
-    ensures read { Gives (λ t. t) result (table_of bytes.now) }
+    ensures read { Gives (λ t. t) result (knot_table_of bytes.now) }
     ensures known { IfOk result (λ t. RowsHaveClasses t) }
 {
     let mut lines = Lines::new(bytes);

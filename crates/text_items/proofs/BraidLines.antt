@@ -14,7 +14,7 @@ use Rattle.braid_core.specs.declared.braid.TheConstants.{MAX_STRANDS}
 use Rattle.braid_core.specs.declared.fault.BraidFault.{BraidFault}
 use Rattle.braid_core.specs.declared.fault.BraidFault.TheVariants.{Strands, Letter, Size, OutOfMemory as Memory}
 use Rattle.braid_core.specs.Braid.{Word, IsLetter}
-use Rattle.braid_core.specs.Fault.{is_outside, first_fault}
+use Rattle.braid_core.specs.Fault.{is_outside_strands, first_word_fault}
 use Rattle.braid_core.proofs.Accepted.{none_braid}
 use Rattle.text_lines.specs.Lines.{NumberedLine}
 use Rattle.text_items.specs.declared.fault.TextFault.TheVariants.{Malformed, Limit}
@@ -62,20 +62,20 @@ strands_fit kept m is =
 
 -- ---- content
 
-outside_low : (m : ℕ) (a : ℤ) → m ≤ 127 → is_outside m (low_letter a) ≡ is_outside m a
+outside_low : (m : ℕ) (a : ℤ) → m ≤ 127 → is_outside_strands m (low_letter a) ≡ is_outside_strands m a
 outside_low m a most = by (nat_lt (unsigned_abs a) 127) refl
   where
-    by : (t : Bool) → nat_lt (unsigned_abs a) 127 ≡ t → is_outside m (low_letter a) ≡ is_outside m a
+    by : (t : Bool) → nat_lt (unsigned_abs a) 127 ≡ t → is_outside_strands m (low_letter a) ≡ is_outside_strands m a
     by true is = rw is refl
     by false is =
         let far : 127 ≤ unsigned_abs a = ltb-false (unsigned_abs a) 127 is in
         rw is (grind (arith, nat_tests, far, most))
 
-first_outside : (m : ℕ) (ls : List ℤ) → m ≤ 127 → position_or_len (is_outside m) (map low_letter ls) ≡ position_or_len (is_outside m) ls
+first_outside : (m : ℕ) (ls : List ℤ) → m ≤ 127 → position_or_len (is_outside_strands m) (map low_letter ls) ≡ position_or_len (is_outside_strands m) ls
 first_outside m [] most = refl
 first_outside m (a ∷ ls) most = ap₂ (λ (t : Bool) (n : ℕ). cond (not t) (1 + n) 0) (outside_low m a most) (first_outside m ls most)
 
-fault_low : (m : ℕ) (ls : List ℤ) → m ≤ 127 → first_fault (word_of m (map low_letter ls)) ≡ first_fault (word_of m ls)
+fault_low : (m : ℕ) (ls : List ℤ) → m ≤ 127 → first_word_fault (word_of m (map low_letter ls)) ≡ first_word_fault (word_of m ls)
 fault_low m ls most = ap₂ fault (first_outside m ls most) (length-map ls low_letter)
   where
     fault : ℕ → ℕ → Option BraidFault
@@ -111,22 +111,23 @@ braid_over line m kept read over =
 
 -- the letters of a word that exceeds no limit were all kept
 same_fault : (line : NumberedLine) (m : ℕ) (kept : KeptLetters) (read : IsRead line m kept) → kept_exceeds m kept ≡ false
-    → first_fault (word_of m read.letters.values) ≡ first_fault (word_of m kept.first.items)
+    → first_word_fault (word_of m read.letters.values) ≡ first_word_fault (word_of m kept.first.items)
 same_fault line m kept read fine =
     let ls = read.letters.values in
     let limits = within m ls (sym (exceeds_same kept ls m read.letters.tells) ∙ fine) in
-    sym (ap (λ (xs : List ℤ). first_fault (word_of m xs)) (kept_all kept ls read.letters.tells limits.size) ∙ fault_low m ls (omega (arith, limits.strands)))
+    sym (ap (λ (xs : List ℤ). first_word_fault (word_of m xs)) (kept_all kept ls read.letters.tells limits.size)
+    ∙ fault_low m ls (omega (arith, limits.strands)))
 
 braid_bad : (line : NumberedLine) (m : ℕ) (kept : KeptLetters) (fault : BraidFault) → IsRead line m kept → kept_exceeds m kept ≡ false
-    → first_fault (word_of m kept.first.items) ≡ Some fault → braid_at line ≡ Err (Malformed line.number)
+    → first_word_fault (word_of m kept.first.items) ≡ Some fault → braid_at line ≡ Err (Malformed line.number)
 braid_bad line m kept fault read fine bad =
     let test : exceeds (word_of m read.letters.values) ≡ false = sym (exceeds_same kept read.letters.values m read.letters.tells) ∙ fine in
-    let content : is_none (first_fault (word_of m read.letters.values)) ≡ false =
+    let content : is_none (first_word_fault (word_of m read.letters.values)) ≡ false =
     ap (λ (f : Option BraidFault). is_none f) (same_fault line m kept read fine ∙ bad) in
     braid_is line m kept read ∙ rw (test, content) refl
 
 pub braid_refused : (line : NumberedLine) (m : ℕ) (kept : KeptLetters) (fault : BraidFault) → IsRead line m kept → kept_exceeds m kept ≡ false
-    → (first_fault (word_of m kept.first.items) ≡ Some fault) ⊎ ((first_fault (word_of m kept.first.items) ≡ None) × (fault ≡ Memory))
+    → (first_word_fault (word_of m kept.first.items) ≡ Some fault) ⊎ ((first_word_fault (word_of m kept.first.items) ≡ None) × (fault ≡ Memory))
     → Fails (refused line.number fault) (braid_at line)
 braid_refused line m kept Memory read fine why = tt
 braid_refused line m kept Strands read fine (inl bad) = braid_bad line m kept Strands read fine bad
@@ -137,13 +138,13 @@ braid_refused line m kept (Letter place) read fine (inr other) = absurd (let no 
 braid_refused line m kept Size read fine (inr other) = absurd (let no = other.1 in cc)
 
 pub braid_good : (line : NumberedLine) (m : ℕ) (kept : KeptLetters) → IsRead line m kept → kept_exceeds m kept ≡ false
-    → first_fault (word_of m kept.first.items) ≡ None → braid_at line ≡ Ok (word_of m kept.first.items)
+    → first_word_fault (word_of m kept.first.items) ≡ None → braid_at line ≡ Ok (word_of m kept.first.items)
 braid_good line m kept read fine none =
     let ls = read.letters.values in
     let test : exceeds (word_of m ls) ≡ false = sym (exceeds_same kept ls m read.letters.tells) ∙ fine in
     let limits = within m ls test in
     let faultless = same_fault line m kept read fine ∙ none in
-    let content : is_none (first_fault (word_of m ls)) ≡ true = ap (λ (f : Option BraidFault). is_none f) faultless in
+    let content : is_none (first_word_fault (word_of m ls)) ≡ true = ap (λ (f : Option BraidFault). is_none f) faultless in
     let all = recursion_from_All (IsLetter m) ls (none_braid (word_of m ls) faultless).crossings in
     let same : kept.first.items ≡ ls = kept_all kept ls read.letters.tells limits.size ∙ letters_same m ls (omega (arith, limits.strands)) all in
     let one : braid_at line ≡ Ok (word_of m ls) = braid_is line m kept read ∙ rw (test, content) refl in

@@ -9,7 +9,7 @@ use Rattle.text_lines.specs.Lines.{NumberedLine}
 use Rattle.text_items.specs.declared.fault.TextFault.TheVariants.{Malformed, Limit}
 use Rattle.text_items.specs.declared.numbers.Kept.{Kept}
 use Rattle.text_items.specs.Reading.{word}
-use Rattle.text_items.specs.Numbers.{numbers, numbers_behind, numbers_below, is_long}
+use Rattle.text_items.specs.NumberLines.{line_numbers, numbers_behind, numbers_below, is_long}
 use Rattle.text_items.specs.Kept.{low, Tells, KeepsRead, CutsRead, are_kept_below}
 
 low_below : (v q : ℕ) → q ≤ 255 → nat_lt (low v) q ≡ nat_lt v q
@@ -54,7 +54,7 @@ below_test kept values width order fits most tells = below_by kept values width 
 
 -- ---- numbers behind a word
 
-pub behind_good : (kept : Kept) (expected : List ℕ) (line rest : NumberedLine) → word expected line ≡ Ok rest → KeepsRead (Tells kept) (numbers rest)
+pub behind_good : (kept : Kept) (expected : List ℕ) (line rest : NumberedLine) → word expected line ≡ Ok rest → KeepsRead (Tells kept) (line_numbers rest)
     → kept.more ≡ false → kept.long ≡ false → CutsRead kept.first (numbers_behind expected line)
 unfolding numbers_behind
 behind_good kept expected line rest named read more long =
@@ -69,14 +69,14 @@ behind_good kept expected line rest named read more long =
 
 -- ---- so many numbers below an order
 
-pub below_long : (kept : Kept) (width order : ℕ) (line : NumberedLine) → KeepsRead (Tells kept) (numbers line) → kept.long ≡ true
+pub below_long : (kept : Kept) (width order : ℕ) (line : NumberedLine) → KeepsRead (Tells kept) (line_numbers line) → kept.long ≡ true
     → numbers_below width order line ≡ Err (Limit line.number)
 unfolding numbers_below
 below_long kept width order line read long =
     let test : list_any is_long read.values ≡ true = sym read.tells.long ∙ long in
     rw (read.is, test) refl
 
-pub below_bad : (kept : Kept) (width order : ℕ) (line : NumberedLine) → width ≤ MAX_SIZE → order ≤ 255 → KeepsRead (Tells kept) (numbers line)
+pub below_bad : (kept : Kept) (width order : ℕ) (line : NumberedLine) → width ≤ MAX_SIZE → order ≤ 255 → KeepsRead (Tells kept) (line_numbers line)
     → kept.long ≡ false → are_kept_below kept width order ≡ false → numbers_below width order line ≡ Err (Malformed line.number)
 unfolding numbers_below
 below_bad kept width order line fits most read long bad =
@@ -85,12 +85,12 @@ below_bad kept width order line fits most read long bad =
     rw (read.is, test, content) refl
 
 -- the same of all numbers of a line
-pub all_bad : (width order : ℕ) (line : NumberedLine) (values : List ℕ) → numbers line ≡ Ok values → list_any is_long values ≡ false
+pub all_bad : (width order : ℕ) (line : NumberedLine) (values : List ℕ) → line_numbers line ≡ Ok values → list_any is_long values ≡ false
     → are_below values width order ≡ false → numbers_below width order line ≡ Err (Malformed line.number)
 unfolding numbers_below
 all_bad width order line values read long content = rw (read, long, content) refl
 
-pub all_good : (width order : ℕ) (line : NumberedLine) (values bytes : List ℕ) → order ≤ 255 → numbers line ≡ Ok values → list_any is_long values ≡ false
+pub all_good : (width order : ℕ) (line : NumberedLine) (values bytes : List ℕ) → order ≤ 255 → line_numbers line ≡ Ok values → list_any is_long values ≡ false
     → are_below values width order ≡ true → bytes ≡ map low values → numbers_below width order line ≡ Ok bytes
 unfolding numbers_below
 all_good width order line values bytes most read long content is =
@@ -102,7 +102,8 @@ record GoodLine (kept : Kept) (width order : ℕ) (line : NumberedLine) : Type 0
   is : numbers_below width order line ≡ Ok kept.first.items
   len : length kept.first.items ≡ width
 
-good_line : (kept : Kept) (width order : ℕ) (line : NumberedLine) → width ≤ MAX_SIZE → order ≤ 255 → KeepsRead (Tells kept) (numbers line) → kept.long ≡ false
+good_line : (kept : Kept) (width order : ℕ) (line : NumberedLine) → width ≤ MAX_SIZE → order ≤ 255 → KeepsRead (Tells kept) (line_numbers line)
+    → kept.long ≡ false
     → are_kept_below kept width order ≡ true → GoodLine kept width order line
 unfolding numbers_below
 good_line kept width order line fits most read long good =
@@ -115,7 +116,7 @@ good_line kept width order line fits most read long good =
     let one : numbers_below width order line ≡ Ok values = rw (read.is, test, content) refl in
     record { is = one ∙ ap (λ (vs : List ℕ). Ok vs) (sym same); len = ap (λ (vs : List ℕ). length vs) same ∙ len }
 
-pub below_good : (kept : Kept) (width order : ℕ) (line : NumberedLine) → width ≤ MAX_SIZE → order ≤ 255 → KeepsRead (Tells kept) (numbers line)
+pub below_good : (kept : Kept) (width order : ℕ) (line : NumberedLine) → width ≤ MAX_SIZE → order ≤ 255 → KeepsRead (Tells kept) (line_numbers line)
     → kept.long ≡ false → are_kept_below kept width order ≡ true → numbers_below width order line ≡ Ok kept.first.items
 below_good kept width order line fits most read long good = (good_line kept width order line fits most read long good).is
 

@@ -12,13 +12,13 @@ use Rattle.std.proofs.Common.{zero-add, get_or}
 use Rattle.arrayvec.specs.ArrayVec.{ArrayVec}
 use Rattle.grid_core.specs.declared.grid.TheConstants.{MAX_SIZE}
 use Rattle.grid_core.specs.declared.fault.GridFault.{GridFault}
-use Rattle.grid_core.specs.Fault.{first_fault, is_repeated}
+use Rattle.grid_core.specs.Fault.{first_grid_fault, is_repeated}
 use Rattle.grid_core.proofs.Accepted.{accepted_lists}
 use Rattle.grid_core.proofs.OneEach.{each_below}
 use Rattle.text_lines.specs.Lines.{NumberedLine}
 use Rattle.text_items.specs.declared.fault.TextFault.TheVariants.{Malformed}
 use Rattle.text_items.specs.Kept.{low, CutsRead}
-use Rattle.text_items.specs.Numbers.{numbers_behind}
+use Rattle.text_items.specs.NumberLines.{numbers_behind}
 use Rattle.text_items.specs.Grids.{is_one_each, are_rows, x_at, o_at}
 use Rattle.text_items.proofs.Cuts.{all_low, same_low}
 
@@ -89,7 +89,8 @@ all_test q [] all = refl
 all_test q (v ∷ vs) all = and_from (nat_lt v q) (list_all (λ v. nat_lt v q) vs) (lt-ltb v q all.0) (all_test q vs all.1)
 
 -- a row that is not below the size is a fault
-outside_fault : (x values : List ℕ) (f : Option GridFault) → first_fault x values ≡ f → list_all (λ v. nat_lt v (length x)) values ≡ false → is_none f ≡ false
+outside_fault : (x values : List ℕ) (f : Option GridFault) → first_grid_fault x values ≡ f → list_all (λ v. nat_lt v (length x)) values ≡ false
+    → is_none f ≡ false
 outside_fault x values (Some e) is bad = refl
 outside_fault x values None is bad =
     let grid = accepted_lists x values is in
@@ -103,7 +104,7 @@ unfolding o_at
 o_outside rows x line short read bad =
     let out : list_all (λ v. nat_lt v (length x)) read.values ≡ false =
     sym (ap (list_all (λ v. nat_lt v (length x))) read.cut ∙ all_low (length x) read.values (omega arith)) ∙ bad in
-    let test : is_none (first_fault x read.values) ≡ false = outside_fault x read.values (first_fault x read.values) refl out in
+    let test : is_none (first_grid_fault x read.values) ≡ false = outside_fault x read.values (first_grid_fault x read.values) refl out in
     rw (read.is, test) refl
 
 -- rows inside are all the numbers as they stand
@@ -115,22 +116,22 @@ inside_same rows x line read short good =
     read.cut ∙ same_low (length x) read.values (omega arith) all
 
 pub o_bad : (rows : ArrayVec ℕ) (x : List ℕ) (line : NumberedLine) (fault : GridFault) → length x ≤ MAX_SIZE
-    → CutsRead rows (numbers_behind (codes "o") line) → list_all (λ v. nat_lt v (length x)) rows.items ≡ true → first_fault x rows.items ≡ Some fault
+    → CutsRead rows (numbers_behind (codes "o") line) → list_all (λ v. nat_lt v (length x)) rows.items ≡ true → first_grid_fault x rows.items ≡ Some fault
     → o_at x line ≡ Err (Malformed line.number)
 unfolding o_at
 o_bad rows x line fault short read good bad =
     let same = inside_same rows x line read short good in
-    let test : is_none (first_fault x read.values) ≡ false =
-    ap (λ (vs : List ℕ). is_none (first_fault x vs)) (sym same) ∙ ap (λ (f : Option GridFault). is_none f) bad in
+    let test : is_none (first_grid_fault x read.values) ≡ false =
+    ap (λ (vs : List ℕ). is_none (first_grid_fault x vs)) (sym same) ∙ ap (λ (f : Option GridFault). is_none f) bad in
     rw (read.is, test) refl
 
 pub o_good : (rows : ArrayVec ℕ) (x : List ℕ) (line : NumberedLine) → length x ≤ MAX_SIZE → CutsRead rows (numbers_behind (codes "o") line)
-    → list_all (λ v. nat_lt v (length x)) rows.items ≡ true → first_fault x rows.items ≡ None
+    → list_all (λ v. nat_lt v (length x)) rows.items ≡ true → first_grid_fault x rows.items ≡ None
     → o_at x line ≡ Ok (record { x = x; o = rows.items })
 unfolding o_at
 o_good rows x line short read good none =
     let same = inside_same rows x line read short good in
-    let test : is_none (first_fault x read.values) ≡ true =
-    ap (λ (vs : List ℕ). is_none (first_fault x vs)) (sym same) ∙ ap (λ (f : Option GridFault). is_none f) none in
+    let test : is_none (first_grid_fault x read.values) ≡ true =
+    ap (λ (vs : List ℕ). is_none (first_grid_fault x vs)) (sym same) ∙ ap (λ (f : Option GridFault). is_none f) none in
     let one : o_at x line ≡ Ok (record { x = x; o = read.values }) = rw (read.is, test) refl in
     one ∙ ap (λ (vs : List ℕ). Ok (record { x = x; o = vs })) (sym same)

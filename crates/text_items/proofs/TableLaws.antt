@@ -3,11 +3,11 @@ use Rattle.std.proofs.Common.{◌≡◌, ◌≤◌, ◌∙◌, ℕ, true, false,
 use Rattle.std.specs.Prelude.{is_none}
 use Rattle.quandle_core.specs.Quandle.{Table}
 use Rattle.quandle_core.specs.declared.quandle.TheConstants.{MAX_ORDER}
-use Rattle.quandle_core.specs.Fault.{first_fault_within, first_fault}
+use Rattle.quandle_core.specs.Fault.{first_fault_within, first_quandle_fault}
 use Rattle.quandle_core.specs.declared.fault.QuandleFault.{QuandleFault}
 use Rattle.quandle_core.proofs.Accepted.{same_fault}
 
-pub told : (t : Table) (o : Option QuandleFault) → t.order ≤ MAX_ORDER → o ≡ first_fault t → is_none o ≡ is_none (first_fault_within t.order t)
+pub told : (t : Table) (o : Option QuandleFault) → t.order ≤ MAX_ORDER → o ≡ first_quandle_fault t → is_none o ≡ is_none (first_fault_within t.order t)
 told t o few is = ap (λ x. is_none x) (is ∙ sym (same_fault MAX_ORDER t few))
 
 none_of : (o : Option QuandleFault) → ((fault : QuandleFault) → o ≡ Some fault → ⊥) → is_none o ≡ true

@@ -6,13 +6,13 @@ use Rattle.std.specs.List.{list_any}
 use Rattle.grid_core.specs.declared.grid.TheConstants.{MAX_SIZE}
 use Rattle.braid_core.specs.declared.braid.TheConstants.{MAX_STRANDS}
 use Rattle.braid_core.specs.Braid.{Word}
-use Rattle.braid_core.specs.Fault.{first_fault}
+use Rattle.braid_core.specs.Fault.{first_word_fault}
 use Rattle.text_lines.specs.Lines.{NumberedLine, Text}
-use Rattle.text_lines.specs.Numbers.{number_of}
+use Rattle.text_lines.specs.NumberTokens.{number_of}
 use Rattle.text_items.specs.declared.fault.TextFault.{TextFault}
 use Rattle.text_items.specs.declared.fault.TextFault.TheVariants.{Malformed, Limit}
 use Rattle.text_items.specs.Reading.{◌>>=◌, next_line, word, number, each_token}
-use Rattle.text_items.specs.Numbers.{is_long}
+use Rattle.text_items.specs.NumberLines.{is_long}
 
 -- a number, or a `-` directly followed by a number
 abbrev pub letter_of : List ℕ → Option ℤ
@@ -39,7 +39,7 @@ exceeds b = nat_lt MAX_STRANDS b.strands || (list_any is_long_letter b.letters |
 
 -- the word of line n, which exceeds no limit and is a braid: a strand at least, and each letter from 1 to m-1 or its negative
 abbrev pub braid_of : ℕ → Word → Result Word TextFault
-braid_of n b = if exceeds b then Err (Limit n) else if is_none (first_fault b) then Ok b else Err (Malformed n)
+braid_of n b = if exceeds b then Err (Limit n) else if is_none (first_word_fault b) then Ok b else Err (Malformed n)
 
 -- the one line of a braid: form, limits, content
 unfoldable pub braid_at : NumberedLine → Result Word TextFault

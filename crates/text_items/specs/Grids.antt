@@ -2,12 +2,12 @@
 use Rattle.std.specs.Prelude.{ℕ, ◌&&◌, Bool, not, List, codes, length, Result, Ok, Err, is_none, nat_le, nat_lt, if◌then◌else◌}
 use Rattle.std.specs.List.{list_all, list_any, range_with_len}
 use Rattle.grid_core.specs.Diagram.{Diagram}
-use Rattle.grid_core.specs.Fault.{is_repeated, first_fault}
+use Rattle.grid_core.specs.Fault.{is_repeated, first_grid_fault}
 use Rattle.text_lines.specs.Lines.{NumberedLine, Text}
 use Rattle.text_items.specs.declared.fault.TextFault.{TextFault}
 use Rattle.text_items.specs.declared.fault.TextFault.TheVariants.{Malformed}
 use Rattle.text_items.specs.Reading.{◌>>=◌, next_line}
-use Rattle.text_items.specs.Numbers.{numbers_behind}
+use Rattle.text_items.specs.NumberLines.{numbers_behind}
 
 -- each of the n numbers is below n, and none stands twice
 abbrev pub is_one_each : List ℕ → Bool
@@ -28,7 +28,7 @@ x_at line = do
 unfoldable pub o_at : List ℕ → NumberedLine → Result Diagram TextFault
 o_at x line = do
   rows ← numbers_behind (codes "o") line
-  if is_none (first_fault x rows) then Ok (record { x = x; o = rows }) else Err (Malformed line.number)
+  if is_none (first_grid_fault x rows) then Ok (record { x = x; o = rows }) else Err (Malformed line.number)
 
 -- the two lines of a grid
 unfoldable pub grid_item : Text → Result (Diagram × Text) TextFault

@@ -6,7 +6,7 @@ use Rattle.grid_core.specs.declared.grid.TheConstants.{MAX_SIZE}
 use Rattle.text_items.specs.declared.fault.TextFault.{TextFault}
 use Rattle.text_items.specs.declared.numbers.Kept.{Kept}
 use Rattle.text_items.specs.Reading.{Fails}
-use Rattle.text_items.specs.Numbers.{is_long}
+use Rattle.text_items.specs.NumberLines.{is_long}
 
 -- the first MAX_SIZE of these values, cut down; whether there are more; and whether one has too many digits
 pub record TellsOf {A B : Type 0} (cut : A → B) (has_many_digits : A → Bool) (kept : List B) (has_more has_long : Bool) (values : List A) : Type 0 where

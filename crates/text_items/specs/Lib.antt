@@ -1,5 +1,5 @@
 pub mod Reading
-pub mod Numbers
+pub mod NumberLines
 pub mod Kept
 pub mod Grids
 pub mod Braids

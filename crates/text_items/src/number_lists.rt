@@ -2,7 +2,7 @@
 ghost use Rattle.std.specs.Prelude.{◌≡◌};
 ghost use Rattle.std.specs.List.{list_any};
 ghost use Rattle.text_items.specs.Reading.{Gives};
-ghost use Rattle.text_items.specs.Numbers.{is_long, numbers};
+ghost use Rattle.text_items.specs.NumberLines.{is_long, line_numbers};
 
 use crate::fault::TextFault;
 use crate::reading::MAX_NUMBER;
@@ -11,7 +11,7 @@ use text_lines::Line;
 
 /// All tokens that are left of a line, as numbers of any size.
 pub fn number_list(alloc: Global, line: &mut Line) -> Result<Vec<u32>, TextFault>
-    ensures { Gives (λ v. v.items) result (numbers line.old) }
+    ensures { Gives (λ v. v.items) result (line_numbers line.old) }
 {
     let at = line.number();
     let mut list = Vec::new(alloc);

@@ -4,7 +4,7 @@ ghost use Rattle.arrayvec.specs.ArrayVec.{array_vec_len};
 ghost use Rattle.std.specs.List.{list_all};
 ghost use Rattle.grid_core.specs.declared.grid.TheConstants.{MAX_SIZE};
 ghost use Rattle.text_items.specs.Reading.{Gives};
-ghost use Rattle.text_items.specs.Numbers.{numbers, numbers_behind, numbers_below};
+ghost use Rattle.text_items.specs.NumberLines.{line_numbers, numbers_behind, numbers_below};
 ghost use Rattle.text_items.specs.Kept.{low, Tells, KeepsOrFails, CutsOrFails, are_kept_below};
 
 use crate::fault::TextFault;
@@ -25,7 +25,7 @@ pub struct Kept {
 
 /// All tokens that are left of a line, as numbers.
 fn numbers(line: &mut Line) -> Result<Kept, TextFault>
-    ensures { KeepsOrFails Tells result (numbers line.old) }
+    ensures { KeepsOrFails Tells result (line_numbers line.old) }
 {
     let at = line.number();
     let mut kept = Kept {
@@ -62,7 +62,7 @@ pub fn low(value: u32) -> u8
 }
 
 /// A word and at most `MAX_SIZE` numbers, each cut down to at most 255.
-#[tactic(auto, unfolding(crate::specs::Numbers::numbers_behind))]
+#[tactic(auto, unfolding(crate::specs::NumberLines::numbers_behind))]
 pub fn numbers_behind(expected: &[u8], line: &mut Line) -> Result<Rows, TextFault>
     ensures { CutsOrFails result (numbers_behind expected.now line.old) }
 {
@@ -76,7 +76,7 @@ pub fn numbers_behind(expected: &[u8], line: &mut Line) -> Result<Rows, TextFaul
 }
 
 /// So many numbers below the order, which is at most 255.
-#[tactic(auto, unfolding(crate::specs::Numbers::numbers_below))]
+#[tactic(auto, unfolding(crate::specs::NumberLines::numbers_below))]
 pub fn numbers_below(width: u8, order: u8, line: &mut Line) -> Result<Rows, TextFault>
     requires { width ≤ MAX_SIZE }
     ensures numbers { Gives (λ r. r.items) result (numbers_below width order line.old) }

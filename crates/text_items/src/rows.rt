@@ -2,7 +2,7 @@
 ghost use Rattle.std.specs.Prelude.{◌≡◌, ◌≤◌, ◌-◌, ◌==◌, ◌&&◌, length, map, nat_lt, IfOk};
 ghost use Rattle.std.specs.List.{list_all};
 ghost use Rattle.text_items.specs.Reading.{Gives};
-ghost use Rattle.text_items.specs.Numbers.{numbers_below};
+ghost use Rattle.text_items.specs.NumberLines.{numbers_below};
 ghost use Rattle.text_items.specs.Kept.{low};
 ghost use Rattle.text_items.specs.Quandles.{table_row, table_rows};
 
@@ -14,7 +14,7 @@ use std::alloc::{AllocFailed, Global};
 use text_lines::{Line, Lines};
 
 /// So many numbers below a bound, which is at most 255. Else the fault of the line, or want of memory.
-#[tactic(auto, unfolding(crate::specs::Numbers::numbers_below))]
+#[tactic(auto, unfolding(crate::specs::NumberLines::numbers_below))]
 pub fn numbers_below(
     alloc: Global,
     width: u8,

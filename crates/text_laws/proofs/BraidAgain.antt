@@ -10,10 +10,10 @@ use Rattle.grid_core.specs.declared.grid.TheConstants.{MAX_SIZE}
 use Rattle.braid_core.specs.declared.braid.TheConstants.{MAX_STRANDS}
 use Rattle.braid_core.specs.declared.fault.BraidFault.{BraidFault}
 use Rattle.braid_core.specs.Braid.{Word, IsLetter, IsBraid}
-use Rattle.braid_core.specs.Fault.{first_fault}
+use Rattle.braid_core.specs.Fault.{first_word_fault}
 use Rattle.braid_core.proofs.Accepted.{braid_none}
 use Rattle.text_lines.specs.Lines.{Text, text_from}
-use Rattle.text_lines.specs.Numbers.{number_of}
+use Rattle.text_lines.specs.NumberTokens.{number_of}
 use Rattle.text_lines.specs.Spelled.{is_word, is_line, numbered}
 use Rattle.knot_text.proofs.NumberTexts.{decimal_read}
 use Rattle.knot_text.proofs.Written.{lines_read}
@@ -50,7 +50,7 @@ line_again : (n : ℕ) (b : Word) → IsBraid b → braid_at (line_of n (codes "
 unfolding braid_at
 line_again n b braid =
     let all = recursion_from_All (IsLetter b.strands) b.letters braid.crossings in
-    let content : is_none (first_fault b) ≡ true = ap (λ (f : Option BraidFault). is_none f) (braid_none b braid) in
+    let content : is_none (first_word_fault b) ≡ true = ap (λ (f : Option BraidFault). is_none f) (braid_none b braid) in
     rw (
       word_again (codes "braid") n (decimal b.strands ∷ map letter_token b.letters),
       number_again b.strands n (map letter_token b.letters)

@@ -11,8 +11,8 @@ use Rattle.grid_core.specs.Fault.{or_next}
 use Rattle.braid_core.specs.declared.braid.TheConstants.{MAX_STRANDS}
 use Rattle.braid_core.specs.declared.fault.BraidFault.TheVariants.{Letter}
 use Rattle.braid_core.specs.Braid.{Word}
-use Rattle.braid_core.specs.Fault.{is_outside, first_fault}
-use Rattle.text_lines.specs.Numbers.{is_number}
+use Rattle.braid_core.specs.Fault.{is_outside_strands, first_word_fault}
+use Rattle.text_lines.specs.NumberTokens.{is_number}
 use Rattle.text_items.specs.declared.fault.TextFault.{TextFault}
 use Rattle.text_items.specs.declared.fault.TextFault.TheVariants.{Malformed}
 use Rattle.text_items.specs.Reading.{next_token, word, number, each_token}
@@ -83,16 +83,16 @@ inside_by : (good bad more : Bool) → not bad ≡ more → not (not good || bad
 inside_by true bad more is = is
 inside_by false bad more is = refl
 
-letter_inside : (m : ℕ) (t : List ℕ) → is_long_token t ≡ false → is_outside m (letter_value t) ≡ not (is_letter_of m t)
+letter_inside : (m : ℕ) (t : List ℕ) → is_long_token t ≡ false → is_outside_strands m (letter_value t) ≡ not (is_letter_of m t)
 letter_inside m t short = rw (letter_abs t, short) refl
 
 all_inside : (m : ℕ) (ts : List (List ℕ)) → list_any is_long_token ts ≡ false
-    → not (list_any (is_outside m) (map letter_value ts)) ≡ list_all (is_letter_of m) ts
+    → not (list_any (is_outside_strands m) (map letter_value ts)) ≡ list_all (is_letter_of m) ts
 all_inside m [] short = refl
 all_inside m (t ∷ ts) short =
     let parts = or_parts (is_long_token t) (list_any is_long_token ts) short in
     rw (letter_inside m t parts.0)
-    (inside_by (is_letter_of m t) (list_any (is_outside m) (map letter_value ts)) (list_all (is_letter_of m) ts) (all_inside m ts parts.1))
+    (inside_by (is_letter_of m t) (list_any (is_outside_strands m) (map letter_value ts)) (list_all (is_letter_of m) ts) (all_inside m ts parts.1))
 
 -- ---- content
 
@@ -100,11 +100,11 @@ abbrev word_of : ℕ → List (List ℕ) → Word
 word_of strands ts = record { strands = strands; letters = map letter_value ts }
 
 content_by : (s : ℕ) (ts : List (List ℕ)) (least : Bool) → nat_le 1 s ≡ least → nat_lt MAX_STRANDS s ≡ false → list_any is_long_token ts ≡ false
-    → nat_lt MAX_SIZE (length ts + 2 * s) ≡ false → is_none (first_fault (word_of s ts)) ≡ (least && list_all (is_letter_of s) ts)
+    → nat_lt MAX_SIZE (length ts + 2 * s) ≡ false → is_none (first_word_fault (word_of s ts)) ≡ (least && list_all (is_letter_of s) ts)
 content_by s ts false is few short room = rw is refl
 content_by s ts true is few short room =
-    rw (found (is_outside s) (map letter_value ts), is, most_by MAX_STRANDS s, few, length-map ts letter_value, room)
-    (none_next (list_any (is_outside s) (map letter_value ts)) (position_or_len (is_outside s) (map letter_value ts)) ∙ all_inside s ts short)
+    rw (found (is_outside_strands s) (map letter_value ts), is, most_by MAX_STRANDS s, few, length-map ts letter_value, room)
+    (none_next (list_any (is_outside_strands s) (map letter_value ts)) (position_or_len (is_outside_strands s) (map letter_value ts)) ∙ all_inside s ts short)
 
 -- ---- the line
 

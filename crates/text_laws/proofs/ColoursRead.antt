@@ -8,11 +8,11 @@ use Rattle.text_items.specs.declared.fault.TextFault.TheVariants.{Malformed}
 use Rattle.knot_text.specs.declared.shapes.ReplayText.{ReplayText}
 use Rattle.quandle_core.specs.Names.{NamedQuandle}
 use Rattle.text_items.specs.Reading.{◌>>=◌, next_line, text_end}
-use Rattle.text_items.specs.Numbers.{numbers_behind}
+use Rattle.text_items.specs.NumberLines.{numbers_behind}
 use Rattle.verdict_text.specs.Moves.{moves_item}
 use Rattle.text_items.specs.Quandles.{quandle_item}
 use Rattle.knot_text.specs.Colours.{colours_at, colours_item, coloured_item, some_coloured, coloured}
-use Rattle.verdict_core.specs.Diagrams.{columns}
+use Rattle.verdict_core.specs.Diagrams.{column_count}
 use Rattle.verdict_text.specs.Diagrams.{diagram_item}
 use Rattle.knot_text.specs.Shapes.{replay_in}
 use Rattle.knot_text.proofs.Steady.{bind_ok, ok_is}
@@ -67,19 +67,19 @@ given_are width text g rest is = by (first_starts (codes "quandle") text.lines) 
         subst (λ (y : Given × Text). AreGiven width y.0) {x = (Some b.0.0, b.0.1)} same (some_are width text b.0.0 b.0.1 b.1)
     by false is = subst (λ (y : Given × Text). AreGiven width y.0) {x = (None, text)} (ok_is (None, text) (g, rest) is) tt
 
-replay_given : (text : Text) (r : ReplayText) → replay_in text ≡ Ok r → AreGiven (columns r.diagram) r.colours
+replay_given : (text : Text) (r : ReplayText) → replay_in text ≡ Ok r → AreGiven (column_count r.diagram) r.colours
 unfolding replay_in
 replay_given text r is =
-    let a = bind_ok (diagram_item text) (λ d. moves_item d.1 >>= λ m. coloured (columns d.0) m.1 >>= λ g. text_end g.1
+    let a = bind_ok (diagram_item text) (λ d. moves_item d.1 >>= λ m. coloured (column_count d.0) m.1 >>= λ g. text_end g.1
     >>= λ end. Ok (record { diagram = d.0; moves = m.0; colours = g.0 })) r is in
-    let b = bind_ok (moves_item a.0.1) (λ m. coloured (columns a.0.0) m.1 >>= λ g. text_end g.1
+    let b = bind_ok (moves_item a.0.1) (λ m. coloured (column_count a.0.0) m.1 >>= λ g. text_end g.1
     >>= λ end. Ok (record { diagram = a.0.0; moves = m.0; colours = g.0 })) r a.2 in
-    let c = bind_ok (coloured (columns a.0.0) b.0.1) (λ g. text_end g.1 >>= λ end. Ok (record { diagram = a.0.0; moves = b.0.0; colours = g.0 })) r b.2 in
+    let c = bind_ok (coloured (column_count a.0.0) b.0.1) (λ g. text_end g.1 >>= λ end. Ok (record { diagram = a.0.0; moves = b.0.0; colours = g.0 })) r b.2 in
     let e = bind_ok (text_end c.0.1) (λ end. Ok (record { diagram = a.0.0; moves = b.0.0; colours = c.0.0 })) r c.2 in
     let same = ok_is (record { diagram = a.0.0; moves = b.0.0; colours = c.0.0 }) r e.2 in
-    subst (λ (x : ReplayText). AreGiven (columns x.diagram) x.colours) {x = record { diagram = a.0.0; moves = b.0.0; colours = c.0.0 }} same
-    (given_are (columns a.0.0) b.0.1 c.0.0 c.0.1 c.1)
+    subst (λ (x : ReplayText). AreGiven (column_count x.diagram) x.colours) {x = record { diagram = a.0.0; moves = b.0.0; colours = c.0.0 }} same
+    (given_are (column_count a.0.0) b.0.1 c.0.0 c.0.1 c.1)
 
 pub replay_colours : (text : Text) (r : ReplayText) (q : NamedQuandle) (c : ArrayVec ℕ) → replay_in text ≡ Ok r → r.colours ≡ Some (q, c)
-    → AreColours (columns r.diagram) q.table.order c.items
-replay_colours text r q c is given = subst (λ (g : Given). AreGiven (columns r.diagram) g) given (replay_given text r is)
+    → AreColours (column_count r.diagram) q.table.order c.items
+replay_colours text r q c is given = subst (λ (g : Given). AreGiven (column_count r.diagram) g) given (replay_given text r is)

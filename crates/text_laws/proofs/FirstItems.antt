@@ -2,11 +2,11 @@
 use Rattle.std.proofs.Common.{◌≡◌, ◌∙◌, ℕ, ◌||◌, ◌==◌, Bool, true, false, cond, List, [], ◌∷◌, codes, Option, Some, None, Result, Ok, Err, nat_le, nat_lt, is_none, refl, ap, sym, arith}
 use Rattle.std.specs.Str.{bytes_eq}
 use Rattle.quandle_core.specs.Quandle.{Table}
-use Rattle.cocycle_core.specs.Fault.{first_fault}
+use Rattle.cocycle_core.specs.Fault.{first_cocycle_fault}
 use Rattle.arrayvec.specs.ArrayVec.{ArrayVec}
 use Rattle.grid_core.specs.Diagram.{Diagram}
 use Rattle.text_lines.specs.Lines.{NumberedLine, Text, starts}
-use Rattle.text_lines.specs.Numbers.{is_number}
+use Rattle.text_lines.specs.NumberTokens.{is_number}
 use Rattle.verdict_core.specs.declared.diagrams.Diagram.TheVariants as diagram
 use Rattle.text_items.specs.declared.fault.TextFault.{TextFault}
 use Rattle.text_items.specs.declared.fault.TextFault.TheVariants.{Malformed}
@@ -132,7 +132,7 @@ pub modulus_fails : FailsByKind modulus_kind modulus_at
 modulus_fails line = ap read_fault (modulus_line line.number line.tokens) ∙ only_faults (kind_fault modulus_kind line) (count line.tokens)
 
 pub cocycle_begins : (q : Table) → BeginsBy modulus_kind
-    (λ tokens text. rows_fault q.order (count tokens) (λ entries. is_none (first_fault (cochain q (count tokens) entries))) text) (cocycle_item q)
+    (λ tokens text. rows_fault q.order (count tokens) (λ entries. is_none (first_cocycle_fault (cochain q (count tokens) entries))) text) (cocycle_item q)
 unfolding cocycle_item next_line
 cocycle_begins q line text =
     let behind = λ (modulus : ℕ). cochain_item q modulus text in

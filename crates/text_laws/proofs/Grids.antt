@@ -12,7 +12,7 @@ use Rattle.grid_core.specs.declared.mark.Kind.TheVariants.{Cross, Ring}
 use Rattle.grid_core.specs.declared.fault.GridFault.{GridFault}
 use Rattle.grid_core.specs.declared.fault.GridFault.TheVariants.{Size, Length, Range, Repeat, Same}
 use Rattle.grid_core.specs.Diagram.{Diagram, size, row_of}
-use Rattle.grid_core.specs.Fault.{lowest, is_outside, is_repeated, first_fault}
+use Rattle.grid_core.specs.Fault.{lowest, is_outside, is_repeated, first_grid_fault}
 use Rattle.grid_core.proofs.Accepted.{earlier as not_repeated, none_lowest, cond_passed, next_passed}
 use Rattle.text_laws.specs.First.{IsFirst}
 use Rattle.text_laws.specs.GridFaults.{IsGridFault, grid_rank, grid_number}
@@ -256,7 +256,7 @@ module _ (d : Diagram) where
   all_passed sized alike inside once apart =
       record { sized = λ low. sized; alike = λ low. alike; inside = λ low. inside; once = λ low. once; apart = λ low. apart }
 
-  pub grid_first : (fault : GridFault) → first_fault d.x d.o ≡ Some fault → First fault
+  pub grid_first : (fault : GridFault) → first_grid_fault d.x d.o ≡ Some fault → First fault
   grid_first fault found = elim (tested wrong_size Size fault _ found) [
     | inl at ↦ subst First at.1 (size_first at.0)
     | inr sized ↦ elim (tested wrong_length Length fault _ sized.1) [
@@ -274,7 +274,7 @@ module _ (d : Diagram) where
     ]
   ]
 
-  pub grid_holds : first_fault d.x d.o ≡ None → (fault : GridFault) → IsGridFault d fault → ⊥
+  pub grid_holds : first_grid_fault d.x d.o ≡ None → (fault : GridFault) → IsGridFault d fault → ⊥
   grid_holds none fault =
       let sized = cond_passed wrong_size Size _ none in
       let alike = cond_passed wrong_length Length _ sized.1 in

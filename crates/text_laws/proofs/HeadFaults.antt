@@ -3,7 +3,7 @@ use Rattle.std.proofs.Common.{◌≡◌, ◌∙◌, ◌≤◌, ℕ, ◌||◌, Bo
 use Rattle.std.specs.List.{list_any}
 use Rattle.std.specs.Str.{bytes_eq}
 use Rattle.text_lines.specs.Lines.{NumberedLine, Text, starts}
-use Rattle.text_lines.specs.Numbers.{is_number}
+use Rattle.text_lines.specs.NumberTokens.{is_number}
 use Rattle.colour_list.specs.declared.limits.TheConstants.{MAX_COLOURINGS}
 use Rattle.verdict_core.specs.declared.verdict.Verdict.TheVariants.{Equal, UnknownBudget, UnknownExhausted}
 use Rattle.text_items.specs.declared.fault.TextFault.{TextFault}

@@ -9,17 +9,17 @@ use Rattle.grid_moves.specs.declared.step.Move.TheVariants.{ShiftColumns, ShiftR
 use Rattle.grid_moves.specs.declared.step.Move.TheVariants.{Stabilise, Destabilise}
 use Rattle.grid_moves.specs.Kinds.{is_shift, is_column_shift, is_row_shift}
 use Rattle.grid_moves.specs.Tidy.{may_follow}
-use Rattle.cocycle_core.specs.Fault.{first_fault as cochain_fault}
+use Rattle.cocycle_core.specs.Fault.{first_cocycle_fault as cochain_fault}
 use Rattle.text_lines.specs.Lines.{NumberedLine, Text}
 use Rattle.quandle_core.specs.declared.names.QuandleName.TheVariants as name
 use Rattle.quandle_core.specs.Names.{called}
 use Rattle.text_items.specs.declared.fault.TextFault.{TextFault}
 use Rattle.text_items.specs.declared.fault.TextFault.TheVariants.{Malformed}
 use Rattle.text_items.specs.Reading.{◌>>=◌, in_turn, next_line}
-use Rattle.text_items.specs.Numbers.{numbers_below}
+use Rattle.text_items.specs.NumberLines.{numbers_below}
 use Rattle.verdict_text.specs.Moves.{move_at, next_move, move_lines, tidy_move_at, tidy_move, tidy_moves}
 use Rattle.knot_text.specs.Printed.{move_tokens}
-use Rattle.knot_text.specs.BraidSteps.{step_at, next_step, step_lines}
+use Rattle.knot_text.specs.BraidSteps.{step_at, braid_step_item, step_lines}
 use Rattle.verdict_text.specs.Verdicts.{colour_line}
 use Rattle.text_items.specs.Quandles.{table_row, table_rows, table_item}
 use Rattle.verdict_text.specs.Cocycles.{cochain, cochain_item}
@@ -70,7 +70,7 @@ unfolding next_move
 moves_turn count text = turns_fail move_kind (λ line. move_at line) (λ move. move) (λ line. move_fails line) count text.lines text.ending
 
 pub steps_turn : (count : ℕ) (text : Text) → read_fault (step_lines count text) ≡ lines_fault step_kind count text
-unfolding next_step
+unfolding braid_step_item
 steps_turn count text = turns_fail step_kind (λ line. step_at line) (λ step. step) (λ line. step_fails line) count text.lines text.ending
 
 pub colours_turn : (width order count : ℕ) (text : Text)

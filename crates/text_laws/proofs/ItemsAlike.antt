@@ -6,22 +6,22 @@ use Rattle.std.specs.Str.{bytes_eq}
 use Rattle.colour_list.specs.declared.limits.TheConstants.{MAX_COLOURINGS}
 use Rattle.colour_rows.specs.Colouring.{are_colours}
 use Rattle.grid_core.specs.declared.grid.TheConstants.{MAX_SIZE}
-use Rattle.grid_core.specs.Fault.{first_fault}
+use Rattle.grid_core.specs.Fault.{first_grid_fault}
 use Rattle.braid_core.specs.Braid.{Word}
-use Rattle.braid_core.specs.Fault.{first_fault as word_fault}
+use Rattle.braid_core.specs.Fault.{first_word_fault as word_fault}
 use Rattle.grid_moves.specs.declared.step.Move.{Move}
 use Rattle.grid_moves.specs.declared.step.Move.TheVariants.{ShiftColumns, ShiftRows, ExchangeColumns, ExchangeRows, SlideColumns, SlideRows}
 use Rattle.quandle_core.specs.declared.quandle.TheConstants.{MAX_ORDER}
 use Rattle.quandle_core.specs.Fault.{first_fault_within}
 use Rattle.text_lines.specs.Lines.{Text}
-use Rattle.text_lines.specs.Numbers.{number_of}
+use Rattle.text_lines.specs.NumberTokens.{number_of}
 use Rattle.text_items.specs.declared.fault.TextFault.{TextFault}
 use Rattle.text_items.specs.declared.reading.TheConstants.{MAX_NUMBER, MAX_PLACE}
 use Rattle.text_items.specs.declared.quandles.TheConstants.{MAX_QUANDLES}
 use Rattle.text_items.specs.declared.quandles.Written.{Written}
 use Rattle.text_items.specs.declared.quandles.Written.TheVariants as written
 use Rattle.text_items.specs.Reading.{◌>>=◌, next_token, line_end, word, or_malformed, number, last_number, last_count, at_most, each_token, in_turn}
-use Rattle.text_items.specs.Numbers.{is_long, numbers_behind, numbers_below}
+use Rattle.text_items.specs.NumberLines.{is_long, numbers_behind, numbers_below}
 use Rattle.text_items.specs.Grids.{are_rows, x_at, o_at, grid_item}
 use Rattle.text_items.specs.Braids.{letter_of, exceeds, braid_of, braid_at, braid_item}
 use Rattle.verdict_text.specs.Moves.{last_place, one_place, shift, exchange, slide, kind_at, corner_at, stabilise, destabilise, move_at, next_move, moves_item, on_axis}
@@ -99,7 +99,7 @@ x_alike ts n m = same_bind (behind_alike (codes "x") ts n m) (λ rows. alike_if 
 
 o_alike : (x : List ℕ) (ts : List (List ℕ)) (n m : ℕ) → Alike Same (o_at x (line_of n ts)) (o_at x (line_of m ts))
 unfolding o_at
-o_alike x ts n m = same_bind (behind_alike (codes "o") ts n m) (λ rows. alike_if (is_none (first_fault x rows)) (alike_ok refl) alike_err)
+o_alike x ts n m = same_bind (behind_alike (codes "o") ts n m) (λ rows. alike_if (is_none (first_grid_fault x rows)) (alike_ok refl) alike_err)
 
 pub grid_alike : (t u : Text) → SameText t u → Alike SameLeft (grid_item t) (grid_item u)
 unfolding grid_item

@@ -1,7 +1,7 @@
 -- Texts are refused by their items in turn.
 use Rattle.std.proofs.Common.{◌≡◌, ◌∙◌, ℕ, suc, Bool, true, false, cond, List, [], ◌∷◌, codes, Option, Some, None, Result, Ok, Err, refl}
 use Rattle.text_lines.specs.Lines.{NumberedLine, Text, starts, begins}
-use Rattle.verdict_core.specs.Diagrams.{columns}
+use Rattle.verdict_core.specs.Diagrams.{column_count}
 use Rattle.text_items.specs.declared.fault.TextFault.{TextFault}
 use Rattle.quandle_core.specs.declared.quandle.TheConstants.{MAX_ORDER}
 use Rattle.text_items.specs.declared.quandles.TheConstants.{MAX_QUANDLES}
@@ -52,16 +52,17 @@ unfolding problem_in
 problem_turns text = then_by (problem_item text) _ _ (λ problem. ends problem.0 problem.1)
 
 pub check_turns : (text : Text) → read_fault (check_in text) ≡ item_then (problem_item text)
-    (λ problem text. item_then (verdict_item (columns problem.first) (columns problem.second) text) (λ verdict text. end_fault text))
+    (λ problem text. item_then (verdict_item (column_count problem.first) (column_count problem.second) text) (λ verdict text. end_fault text))
 unfolding check_in
 check_turns text = then_by (problem_item text) _ _
-    (λ problem. then_by (verdict_item (columns problem.0.first) (columns problem.0.second) problem.1) _ _ (λ verdict. ends (problem.0, verdict.0) verdict.1))
+    (λ problem. then_by (verdict_item (column_count problem.0.first) (column_count problem.0.second) problem.1) _ _
+    (λ verdict. ends (problem.0, verdict.0) verdict.1))
 
 pub replay_turns : (text : Text) → read_fault (replay_in text) ≡ item_then (diagram_item text)
-    (λ diagram text. item_then (moves_item text) (λ moves text. item_then (coloured (columns diagram) text) (λ colours text. end_fault text)))
+    (λ diagram text. item_then (moves_item text) (λ moves text. item_then (coloured (column_count diagram) text) (λ colours text. end_fault text)))
 unfolding replay_in
 replay_turns text = then_by (diagram_item text) _ _ (λ diagram. then_by (moves_item diagram.1) _ _
-    (λ moves. then_by (coloured (columns diagram.0) moves.1) _ _
+    (λ moves. then_by (coloured (column_count diagram.0) moves.1) _ _
     (λ colours. ends (record { diagram = diagram.0; moves = moves.0; colours = colours.0 }) colours.1)))
 
 pub colour_turns : (text : Text) → read_fault (colour_in text)

@@ -7,17 +7,17 @@ use Rattle.std.specs.Str.Parse.{digits_value}
 use Rattle.std.proofs.lemmas.Bool.{ltb-false, le-ltb, or_parts}
 use Rattle.std.proofs.lemmas.List.{length-map}
 use Rattle.grid_core.specs.declared.grid.TheConstants.{MAX_SIZE}
-use Rattle.grid_core.specs.Fault.{first_fault}
+use Rattle.grid_core.specs.Fault.{first_grid_fault}
 use Rattle.colour_rows.specs.Colouring.{are_colours}
 use Rattle.text_lines.specs.declared.numbers.TheConstants.{MAX_DIGITS, OVERLONG}
 use Rattle.text_lines.specs.Lines.{NumberedLine}
-use Rattle.text_lines.specs.Numbers.{is_number, number_of}
+use Rattle.text_lines.specs.NumberTokens.{is_number, number_of}
 use Rattle.knot_text.proofs.NumberTexts.{number_range}
 use Rattle.text_items.specs.declared.fault.TextFault.{TextFault}
 use Rattle.text_items.specs.declared.fault.TextFault.TheVariants.{Malformed, Limit}
 use Rattle.text_items.specs.declared.reading.TheConstants.{MAX_NUMBER}
 use Rattle.text_items.specs.Reading.{◌>>=◌, next_token, word, each_token}
-use Rattle.text_items.specs.Numbers.{is_long, numbers_behind, numbers_below}
+use Rattle.text_items.specs.NumberLines.{is_long, numbers_behind, numbers_below}
 use Rattle.text_items.specs.Grids.{are_rows, x_at, o_at}
 use Rattle.knot_text.specs.Colours.{colours_at}
 use Rattle.text_laws.specs.LineKinds.{read_fault, fault_by, kind_fault, FailsByKind, is_overlong, worth, is_row, row_values, is_row_over}
@@ -141,7 +141,7 @@ unfolding o_at
 o_read x line =
     rw (row_by (codes "o") line.number line.tokens)
     (judged line.number (is_row (codes "o") line.tokens) (is_row_over line.tokens) (kept_of line.tokens) (row_values line.tokens)
-    (λ rows. is_none (first_fault x rows)) (λ rows. record { x = x; o = rows }) _ (all_kept line.tokens) refl)
+    (λ rows. is_none (first_grid_fault x rows)) (λ rows. record { x = x; o = rows }) _ (all_kept line.tokens) refl)
 
 pub colours_read : (width order : ℕ) (line : NumberedLine)
     → colours_at width order line ≡ or_fault (kind_fault (colours_kind width order) line) (record { items = row_values line.tokens })

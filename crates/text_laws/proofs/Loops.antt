@@ -7,7 +7,7 @@ use Rattle.std.proofs.lemmas.List.{length-map, nil_from_length}
 use Rattle.std.proofs.Math.Seq.{take-append_seam, drop-append_seam}
 use Rattle.grid_core.specs.Diagram.{Diagram, size}
 use Rattle.quandle_core.specs.Quandle.{Table}
-use Rattle.crossing_codes.specs.Components.{is_least, starts}
+use Rattle.crossing_codes.specs.Components.{is_least, component_starts}
 use Rattle.crossing_codes.specs.Passages.{passages, passages_from}
 use Rattle.crossing_codes.specs.Edges.{loops}
 use Rattle.crossing_codes.specs.EdgeColouring.{edge_colours, arriving}
@@ -21,7 +21,7 @@ has_none d s = length (passages_from d s) == 0
 pub loops_ascend : (d : Diagram) → AllPairs (λ (a b : ℕ). a < b) (loops d)
 loops_ascend d =
     all_pairs (λ (a b : ℕ). a < b) (loops d)
-    (ordered_filter (λ (a b : ℕ). a < b) (has_none d) (starts d)
+    (ordered_filter (λ (a b : ℕ). a < b) (has_none d) (component_starts d)
     (ordered_filter (λ (a b : ℕ). a < b) (is_least d) (range_with_len 0 (size d)) (ordered_range 0 (size d))))
 
 pub loops_are : (d : Diagram) (s : ℕ) → Contains (loops d) s ↔ ((s < size d) × (is_least d s ≡ true) × (passages_from d s ≡ []))
@@ -29,7 +29,7 @@ loops_are d s = (there, back)
   where
     there : Contains (loops d) s → (s < size d) × (is_least d s ≡ true) × (passages_from d s ≡ [])
     there has =
-        let outer = of_filter (has_none d) (starts d) s (has_contained (loops d) s has) in
+        let outer = of_filter (has_none d) (component_starts d) s (has_contained (loops d) s has) in
         let inner = of_filter (is_least d) (range_with_len 0 (size d)) s outer.0 in
         let low = of_range 0 (size d) s inner.0 in
         (omega (arith, low.1), inner.1, nil_from_length (passages_from d s) (eqb-true (length (passages_from d s)) 0 outer.1))
@@ -37,7 +37,7 @@ loops_are d s = (there, back)
     back : (s < size d) × (is_least d s ≡ true) × (passages_from d s ≡ []) → Contains (loops d) s
     back is =
         contained (loops d) s
-        (has_filter (has_none d) (starts d) s
+        (has_filter (has_none d) (component_starts d) s
         (has_filter (is_least d) (range_with_len 0 (size d)) s (has_range 0 (size d) s (omega arith) (omega (arith, is.0))) is.1)
         (eq-eqb (length (passages_from d s)) 0 (ap length is.2)))
 

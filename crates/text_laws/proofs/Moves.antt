@@ -14,7 +14,7 @@ use Rattle.grid_moves.specs.declared.step.Move.TheVariants.{ShiftColumns, ShiftR
 use Rattle.grid_moves.specs.declared.step.MoveFault.{MoveFault}
 use Rattle.grid_moves.specs.declared.step.MoveFault.TheVariants.{Range, Touching, Interleaved, Block, Full, Apart}
 use Rattle.grid_moves.specs.Destabilisation.{marks_in_block}
-use Rattle.grid_moves.specs.MoveFault.{shift_fault, exchange_fault, slide_fault, first_fault}
+use Rattle.grid_moves.specs.MoveFault.{shift_fault, exchange_fault, slide_fault, first_move_fault}
 use Rattle.text_laws.specs.First.{IsFirst}
 use Rattle.text_laws.specs.MoveFaults.{IsOutOfRange, HaveOneEnd, HaveBothEnds, Interleave, IsMoveFault, move_rank, move_number}
 use Rattle.grid_core.proofs.Accepted.{cond_passed}
@@ -215,7 +215,7 @@ module _ (d : Diagram) where
     | inr at ↦ subst (Comes (ShiftRows k)) at.1 (range_first d (ShiftRows k) (shift_outside (size d) k at.0))
   ]
 
-  exchange_columns_first : (c : ℕ) (fault : MoveFault) → first_fault d (ExchangeColumns c) ≡ Some fault → Comes (ExchangeColumns c) fault
+  exchange_columns_first : (c : ℕ) (fault : MoveFault) → first_move_fault d (ExchangeColumns c) ≡ Some fault → Comes (ExchangeColumns c) fault
   exchange_columns_first c fault found =
       let x = row_of Cross d c in
       let o = row_of Ring d c in
@@ -231,7 +231,7 @@ module _ (d : Diagram) where
         | inr at ↦ subst (Comes (ExchangeColumns c)) at.1 (range_first d (ExchangeColumns c) (ltb-false (c + 1) (size d) at.0))
       ]
 
-  exchange_rows_first : (r : ℕ) (fault : MoveFault) → first_fault d (ExchangeRows r) ≡ Some fault → Comes (ExchangeRows r) fault
+  exchange_rows_first : (r : ℕ) (fault : MoveFault) → first_move_fault d (ExchangeRows r) ≡ Some fault → Comes (ExchangeRows r) fault
   exchange_rows_first r fault found =
       let x = column_of Cross d r in
       let o = column_of Ring d r in
@@ -247,7 +247,7 @@ module _ (d : Diagram) where
         | inr at ↦ subst (Comes (ExchangeRows r)) at.1 (range_first d (ExchangeRows r) (ltb-false (r + 1) (size d) at.0))
       ]
 
-  slide_columns_first : (c : ℕ) (fault : MoveFault) → first_fault d (SlideColumns c) ≡ Some fault → Comes (SlideColumns c) fault
+  slide_columns_first : (c : ℕ) (fault : MoveFault) → first_move_fault d (SlideColumns c) ≡ Some fault → Comes (SlideColumns c) fault
   slide_columns_first c fault found =
       let x = row_of Cross d c in
       let o = row_of Ring d c in
@@ -263,7 +263,7 @@ module _ (d : Diagram) where
         | inr at ↦ subst (Comes (SlideColumns c)) at.1 (range_first d (SlideColumns c) (ltb-false (c + 1) (size d) at.0))
       ]
 
-  slide_rows_first : (r : ℕ) (fault : MoveFault) → first_fault d (SlideRows r) ≡ Some fault → Comes (SlideRows r) fault
+  slide_rows_first : (r : ℕ) (fault : MoveFault) → first_move_fault d (SlideRows r) ≡ Some fault → Comes (SlideRows r) fault
   slide_rows_first r fault found =
       let x = column_of Cross d r in
       let o = column_of Ring d r in
@@ -279,7 +279,7 @@ module _ (d : Diagram) where
         | inr at ↦ subst (Comes (SlideRows r)) at.1 (range_first d (SlideRows r) (ltb-false (r + 1) (size d) at.0))
       ]
 
-  stabilise_first : (c : ℕ) (kind : Kind) (corner : Corner) (fault : MoveFault) → first_fault d (Stabilise c kind corner) ≡ Some fault
+  stabilise_first : (c : ℕ) (kind : Kind) (corner : Corner) (fault : MoveFault) → first_move_fault d (Stabilise c kind corner) ≡ Some fault
       → Comes (Stabilise c kind corner) fault
   stabilise_first c kind corner fault found = elim (refused (nat_lt c (size d)) Range fault _ found) [
     | inl inside ↦ elim (refused (nat_lt (size d) MAX_SIZE) Full fault None inside.1) [
@@ -290,7 +290,7 @@ module _ (d : Diagram) where
     | inr at ↦ subst (Comes (Stabilise c kind corner)) at.1 (range_first d (Stabilise c kind corner) (ltb-false c (size d) at.0))
   ]
 
-  destabilise_first : (c r : ℕ) (fault : MoveFault) → first_fault d (Destabilise c r) ≡ Some fault → Comes (Destabilise c r) fault
+  destabilise_first : (c r : ℕ) (fault : MoveFault) → first_move_fault d (Destabilise c r) ≡ Some fault → Comes (Destabilise c r) fault
   destabilise_first c r fault found = elim (refused (nat_lt (c + 1) (size d) && nat_lt (r + 1) (size d)) Range fault _ found) [
     | inl inside ↦ elim (refused (marks_in_block d c r == 3) (Block (marks_in_block d c r)) fault None inside.1) [
       | inl none ↦ absurd (no_fault fault none.1)
@@ -300,7 +300,7 @@ module _ (d : Diagram) where
     | inr at ↦ subst (Comes (Destabilise c r)) at.1 (range_first d (Destabilise c r) (block_outside (c + 1) (r + 1) (size d) at.0))
   ]
 
-  pub move_first : (move : Move) (fault : MoveFault) → first_fault d move ≡ Some fault → Comes move fault
+  pub move_first : (move : Move) (fault : MoveFault) → first_move_fault d move ≡ Some fault → Comes move fault
   move_first (ShiftColumns k) fault found = shift_columns_first k fault found
   move_first (ShiftRows k) fault found = shift_rows_first k fault found
   move_first (ExchangeColumns c) fault found = exchange_columns_first c fault found
@@ -317,7 +317,7 @@ module _ (d : Diagram) where
   abbrev Never : MoveFault → Type 0
   Never fault = ⊥
 
-  pub move_holds : (move : Move) → first_fault d move ≡ None → (fault : MoveFault) → IsMoveFault d move fault → ⊥
+  pub move_holds : (move : Move) → first_move_fault d move ≡ None → (fault : MoveFault) → IsMoveFault d move fault → ⊥
   move_holds (ShiftColumns k) none =
       let inside = passed (nat_lt 0 k && nat_lt k (size d)) Range None none in
       each (Has (ShiftColumns k)) Never (shift_inside (size d) k inside.0) (λ is. is) (λ is. is) (λ marks is. is) (λ is. is) (λ is. is)

@@ -20,7 +20,7 @@ use Rattle.verdict_core.specs.declared.verdict.Verdict.TheVariants.{Different}
 use Rattle.verdict_core.specs.declared.problem.ProblemText.{ProblemText}
 use Rattle.knot_text.specs.declared.shapes.ReplayText.{ReplayText}
 use Rattle.quandle_core.specs.Names.{NamedQuandle}
-use Rattle.verdict_core.specs.Diagrams.{columns}
+use Rattle.verdict_core.specs.Diagrams.{column_count}
 use Rattle.verdict_text.specs.Problems.{problem_of, check_of}
 use Rattle.knot_text.specs.Shapes.{replay_of}
 use Rattle.knot_text.specs.Printed.{grid_lines, grid_text, moves_lines, moves_text, HaveMovesText, quandle_lines, quandle_text, HasQuandleText}
@@ -82,20 +82,21 @@ problem_printed listed p has =
     problem_in_written (text_of (lines_text (problem_lines listed p))) p (listed, has, printed_says (problem_lines listed p) (problem_words listed p has))
 
 pub check_printed : (version : Version) (listed : List NamedQuandle) (p : ProblemText) (v : Verdict) → HasProblemText listed p
-    → HasVersionText version (columns p.first) (columns p.second) v → check_of (lines_text (problem_lines listed p ++ version_lines version v)) ≡ Ok (p, v)
+    → HasVersionText version (column_count p.first) (column_count p.second) v
+    → check_of (lines_text (problem_lines listed p ++ version_lines version v)) ≡ Ok (p, v)
 check_printed version listed p v has fits =
-    let some : 1 ≤ columns p.first = omega (arith, (diagram_grid p.first has.first).least) in
-    let also : 1 ≤ columns p.second = omega (arith, (diagram_grid p.second has.second).least) in
+    let some : 1 ≤ column_count p.first = omega (arith, (diagram_grid p.first has.first).least) in
+    let also : 1 ≤ column_count p.second = omega (arith, (diagram_grid p.second has.second).least) in
     let lines : List (List (List ℕ)) = problem_lines listed p ++ version_lines version v in
     let words = both_lines (problem_lines listed p) (version_lines version v) (problem_words listed p has)
-    (version_words version (columns p.first) (columns p.second) v some also fits) in
+    (version_words version (column_count p.first) (column_count p.second) v some also fits) in
     check_in_written (text_of (lines_text lines)) p v (listed, has, (version, fits, printed_says lines words))
 
 pub replay_printed : (r : ReplayText) → HasReplayText r → replay_of (lines_text (replay_lines r)) ≡ Ok r
 replay_printed r has =
     let words = both_lines (diagram_lines r.diagram) (moves_lines (codes "moves") r.moves ++ given_lines r.colours) (diagram_words r.diagram has.diagram)
     (both_lines (moves_lines (codes "moves") r.moves) (given_lines r.colours) (moves_words r.moves has.moves)
-    (given_words (columns r.diagram) r.colours has.colours)) in
+    (given_words (column_count r.diagram) r.colours has.colours)) in
     replay_in_written (text_of (lines_text (replay_lines r))) r has (printed_says (replay_lines r) words)
 
 -- ---- replays of a grid

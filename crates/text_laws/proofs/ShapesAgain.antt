@@ -21,7 +21,7 @@ use Rattle.text_items.specs.Quandles.{or_built_in}
 use Rattle.text_items.specs.Reading.{◌>>=◌, text_end}
 use Rattle.text_items.specs.Quandles.{quandles, quandle_list}
 use Rattle.knot_text.specs.Colours.{coloured_item, coloured}
-use Rattle.verdict_core.specs.Diagrams.{grid_of, columns}
+use Rattle.verdict_core.specs.Diagrams.{grid_of, column_count}
 use Rattle.verdict_text.specs.Diagrams.{diagram_item}
 use Rattle.verdict_text.specs.Problems.{problem_item, problem_in, check_in}
 use Rattle.knot_text.specs.Shapes.{replay_in, colour_in, close_in, lone_diagram_in}
@@ -144,8 +144,8 @@ list_written listed values text rest are there other =
 
 -- ---- colours
 
-given_written : (d : Diagram) (given : Option (NamedQuandle × ArrayVec ℕ)) (text rest : Text) → HasDiagramText d → HasGivenText (columns d) given
-    → StandInFront (given_lines given) text rest → AtOther rest.lines → coloured (columns d) text ≡ Ok (given, rest)
+given_written : (d : Diagram) (given : Option (NamedQuandle × ArrayVec ℕ)) (text rest : Text) → HasDiagramText d → HasGivenText (column_count d) given
+    → StandInFront (given_lines given) text rest → AtOther rest.lines → coloured (column_count d) text ≡ Ok (given, rest)
 unfolding coloured coloured_item
 given_written d None text rest has fits there other =
     let here : rest ≡ text = one_rest there (record { front = []; lines = refl; tokens = refl; ending = refl }) in
@@ -155,7 +155,7 @@ given_written d (Some given) text rest has fits there other =
     let c = cut (quandle_lines (codes "quandle") given.0) (colours_lines given.1) text rest there in
     let same : begins (codes "quandle") text ≡ true = begins_with (codes "quandle") _ _ text c.mid c.first in
     let item = quandle_written text given.0 c.mid fits.0 c.first in
-    let colours = colours_written (columns d) given.0.table.order c.mid given.1 rest (diagram_grid d has).most
+    let colours = colours_written (column_count d) given.0.table.order c.mid given.1 rest (diagram_grid d has).most
     (names_order given.0.name given.0.table fits.0.names) fits.1 c.second in
     rw (same, item, colours) refl
 
@@ -193,7 +193,7 @@ check_in_written text p v is =
     let version : Version = is.2.0 in
     let c = cut (problem_lines is.0 p) (version_lines version v) text (nothing_behind text) (whole (problem_lines is.0 p ++ version_lines version v) text is.2.2) in
     let item = problem_written is.0 p text c.mid is.1 c.first (verdict_first version v c.mid (nothing_behind text) c.second) in
-    rw (item, verdict_written version (columns p.first) (columns p.second) c.mid v (nothing_behind text) is.2.1 c.second, end_read text) refl
+    rw (item, verdict_written version (column_count p.first) (column_count p.second) c.mid v (nothing_behind text) is.2.1 c.second, end_read text) refl
 
 pub replay_in_written : (text : Text) (r : ReplayText) → HasReplayText r → tokens_by_line text.lines ≡ replay_lines r → replay_in text ≡ Ok r
 unfolding replay_in

@@ -9,15 +9,15 @@ use Rattle.std.proofs.lemmas.List.{take-append-drop, take_all, take_more, take-a
 use Rattle.std.proofs.lemmas.List.Sums.{list_all-from_AllPass}
 use Rattle.grid_core.specs.declared.grid.TheConstants.{MAX_SIZE}
 use Rattle.braid_core.specs.Braid.{Word, IsLetter, IsBraid}
-use Rattle.braid_core.specs.Fault.{is_outside}
+use Rattle.braid_core.specs.Fault.{is_outside_strands}
 use Rattle.braid_core.specs.declared.braid.TheConstants.{MAX_STRANDS}
 use Rattle.braid_core.proofs.Accepted.{letter_from, letter_not_outside}
 use Rattle.braid_moves.specs.declared.step.BraidMove.{BraidMove}
 use Rattle.braid_moves.specs.declared.step.BraidMove.TheVariants.{Far, Triple, Cancel, Insert, Turn, Grow, Shrink}
 use Rattle.braid_moves.specs.declared.step.BraidMoveFault.{BraidMoveFault}
 use Rattle.braid_moves.specs.declared.step.BraidMoveFault.TheVariants.{Range, Shape, Full, OutOfMemory}
-use Rattle.braid_moves.specs.Step.{letter_at, crossing, moved}
-use Rattle.braid_moves.specs.Fault.{are_far, is_negative, are_triple, may_shrink, first_fault}
+use Rattle.braid_moves.specs.Step.{letter_at, letter_of_crossing, moved}
+use Rattle.braid_moves.specs.Fault.{are_far, is_negative, are_triple, may_shrink, first_step_fault}
 use Rattle.braid_moves.proofs.Same.{at, letter_is}
 use Rattle.braid_moves.proofs.Steps.{crossing_is, step_braid}
 use Rattle.text_laws.specs.First.{IsFirst}
@@ -97,29 +97,32 @@ triple_to a b c some_a some_b is =
     let tests : (one_sign a b ≡ true) × (are_beside (unsigned_abs a) (unsigned_abs b) ≡ true) =
     subst (λ (z : ℤ). (one_sign z b ≡ true) × (are_beside (unsigned_abs z) (unsigned_abs b) ≡ true)) (sym is.here)
     (subst
-    (λ (z : ℤ). (one_sign (crossing is.first is.positive) z ≡ true) × (are_beside (unsigned_abs (crossing is.first is.positive)) (unsigned_abs z) ≡ true))
+    (λ (z : ℤ). (one_sign (letter_of_crossing is.first is.positive) z ≡ true)
+    × (are_beside (unsigned_abs (letter_of_crossing is.first is.positive)) (unsigned_abs z) ≡ true))
     (sym is.between) letters) in
     and_from (int_eq c a && one_sign a b) (are_beside (unsigned_abs a) (unsigned_abs b))
     (and_from (int_eq c a) (one_sign a b) ((Decides-int_eq c a).1 is.again) tests.0) tests.1
   where
-    by : (j k : ℕ) (positive : Bool) → 1 ≤ unsigned_abs (crossing j positive) → 1 ≤ unsigned_abs (crossing k positive) → (j + 1 ≡ k) ⊎ (k + 1 ≡ j)
-        → (one_sign (crossing j positive) (crossing k positive) ≡ true)
-        × (are_beside (unsigned_abs (crossing j positive)) (unsigned_abs (crossing k positive)) ≡ true)
+    by : (j k : ℕ) (positive : Bool) → 1 ≤ unsigned_abs (letter_of_crossing j positive) → 1 ≤ unsigned_abs (letter_of_crossing k positive)
+        → (j + 1 ≡ k) ⊎ (k + 1 ≡ j)
+        → (one_sign (letter_of_crossing j positive) (letter_of_crossing k positive) ≡ true)
+        × (are_beside (unsigned_abs (letter_of_crossing j positive)) (unsigned_abs (letter_of_crossing k positive)) ≡ true)
     by j k true some_j some_k near = (refl, beside_to j k near)
     by zero k false some_j some_k near = absurd (omega (arith, some_j))
     by (suc j) zero false some_j some_k near = absurd (omega (arith, some_k))
     by (suc j) (suc k) false some_j some_k near = (refl, beside_to (suc j) (suc k) near)
 
 -- a place at which a letter may be put in
-insert_inside : (m n place : ℕ) (a : ℤ) → (nat_le place n && not (is_outside m a)) ≡ true → (n < place) ⊎ (IsLetter m a → ⊥) → ⊥
+insert_inside : (m n place : ℕ) (a : ℤ) → (nat_le place n && not (is_outside_strands m a)) ≡ true → (n < place) ⊎ (IsLetter m a → ⊥) → ⊥
 insert_inside m n place a e (inl high) =
-    let le = leb-true place n (and_parts (nat_le place n) (not (is_outside m a)) e).0 in absurd (omega (arith, le, high))
-insert_inside m n place a e (inr bad) = bad (letter_from m a (not-true (is_outside m a) (and_parts (nat_le place n) (not (is_outside m a)) e).1))
+    let le = leb-true place n (and_parts (nat_le place n) (not (is_outside_strands m a)) e).0 in absurd (omega (arith, le, high))
+insert_inside m n place a e (inr bad) =
+    bad (letter_from m a (not-true (is_outside_strands m a) (and_parts (nat_le place n) (not (is_outside_strands m a)) e).1))
 
-insert_outside : (m n place : ℕ) (a : ℤ) → (nat_le place n && not (is_outside m a)) ≡ false → (n < place) ⊎ (IsLetter m a → ⊥)
-insert_outside m n place a e = elim (and_cases (nat_le place n) (not (is_outside m a)) e) [
+insert_outside : (m n place : ℕ) (a : ℤ) → (nat_le place n && not (is_outside_strands m a)) ≡ false → (n < place) ⊎ (IsLetter m a → ⊥)
+insert_outside m n place a e = elim (and_cases (nat_le place n) (not (is_outside_strands m a)) e) [
   | inl high ↦ inl (leb-false place n high)
-  | inr bad ↦ inr (λ letter. both_ways (is_outside m a) (letter_not_outside m a letter) (not-false (is_outside m a) bad))
+  | inr bad ↦ inr (λ letter. both_ways (is_outside_strands m a) (letter_not_outside m a letter) (not-false (is_outside_strands m a) bad))
 ]
 
 -- a word that has grown shrinks
@@ -127,7 +130,7 @@ shrinks : (v : Word) (positive : Bool) → IsBraid v → may_shrink (moved v (Gr
 shrinks v positive braid =
     let m = v.strands in
     let ls = v.letters in
-    let a = crossing m positive in
+    let a = letter_of_crossing m positive in
     let longer = ls ++ a ∷ [] in
     let size : length longer ≡ length ls + 1 = length-append ls (a ∷ []) in
     let least = braid.least in
@@ -151,7 +154,7 @@ shrinks v positive braid =
     let under = letter.most in
     not_from_false (unsigned_abs (get_or ls k d) == m + 1 - 1) (ne_eqb (unsigned_abs (get_or ls k d)) (m + 1 - 1) (λ e. absurd (omega (arith, e, under)))))))
   where
-    size_of : (m : ℕ) (positive : Bool) → unsigned_abs (crossing m positive) ≡ m
+    size_of : (m : ℕ) (positive : Bool) → unsigned_abs (letter_of_crossing m positive) ≡ m
     size_of m true = refl
     size_of zero false = refl
     size_of (suc m) false = refl
@@ -160,7 +163,7 @@ shrinks v positive braid =
 abbrev word : ℕ → List ℤ → Word
 word m letters = record { strands = m; letters = letters }
 
-grew : (w : Word) → IsBraid w → may_shrink w ≡ true → first_fault w Shrink ≡ None → HasGrown w
+grew : (w : Word) → IsBraid w → may_shrink w ≡ true → first_step_fault w Shrink ≡ None → HasGrown w
 grew w braid alone none =
     let m = w.strands in
     let l = length w.letters in
@@ -172,7 +175,7 @@ grew w braid alone none =
     let two = leb-true 2 m first.0 in
     let some = ltb-true 0 l first.1 in
     let which = crossing_is (m - 1) (letter_at w (l - 1)) (eqb-true (unsigned_abs (letter_at w (l - 1))) (m - 1) most.1) (omega (arith, two)) in
-    let letters : w.letters ≡ front ++ crossing (m - 1) which.0 ∷ [] =
+    let letters : w.letters ≡ front ++ letter_of_crossing (m - 1) which.0 ∷ [] =
     sym (take_all l w.letters (omega arith)) ∙ (ap (λ (k : ℕ). take k w.letters) (let e : l ≡ l - 1 + 1 = omega (arith, some) in e)
     ∙ (take_more w.letters (l - 1) (pos 0) (omega (arith, some)) ∙ ap (λ (a : ℤ). front ++ a ∷ []) which.1)) in
     record {
@@ -218,7 +221,7 @@ module _ (w : Word) (braid : IsBraid w) where
   letter_here : (p : ℕ) → p < length w.letters → 1 ≤ unsigned_abs (letter_at w p)
   letter_here p lt = (letter_is w.strands w.letters p braid.crossings lt).least
 
-  far_first : (p : ℕ) (fault : BraidMoveFault) → first_fault w (Far p) ≡ Some fault → Comes (Far p) fault
+  far_first : (p : ℕ) (fault : BraidMoveFault) → first_step_fault w (Far p) ≡ Some fault → Comes (Far p) fault
   far_first p fault found = elim (refused (nat_lt (p + 1) (length w.letters)) Range fault _ found) [
     | inl inside ↦ elim (refused (are_far (letter_at w p) (letter_at w (p + 1))) Shape fault None inside.1) [
       | inl none ↦ absurd (no_fault fault none.1)
@@ -228,7 +231,7 @@ module _ (w : Word) (braid : IsBraid w) where
     | inr at ↦ subst (Comes (Far p)) at.1 (range_first w (Far p) (ltb-false (p + 1) (length w.letters) at.0))
   ]
 
-  triple_first : (p : ℕ) (fault : BraidMoveFault) → first_fault w (Triple p) ≡ Some fault → Comes (Triple p) fault
+  triple_first : (p : ℕ) (fault : BraidMoveFault) → first_step_fault w (Triple p) ≡ Some fault → Comes (Triple p) fault
   triple_first p fault found = elim (refused (nat_lt (p + 2) (length w.letters)) Range fault _ found) [
     | inl inside ↦ elim (refused (are_triple (letter_at w p) (letter_at w (p + 1)) (letter_at w (p + 2))) Shape fault None inside.1) [
       | inl none ↦ absurd (no_fault fault none.1)
@@ -245,7 +248,7 @@ module _ (w : Word) (braid : IsBraid w) where
           (triple_to (letter_at w p) (letter_at w (p + 1)) (letter_at w (p + 2)) (letter_here p (omega (arith, lt)))
           (letter_here (p + 1) (omega (arith, lt))) is)
 
-  cancel_first : (p : ℕ) (fault : BraidMoveFault) → first_fault w (Cancel p) ≡ Some fault → Comes (Cancel p) fault
+  cancel_first : (p : ℕ) (fault : BraidMoveFault) → first_step_fault w (Cancel p) ≡ Some fault → Comes (Cancel p) fault
   cancel_first p fault found = elim (refused (nat_lt (p + 1) (length w.letters)) Range fault _ found) [
     | inl inside ↦ elim (refused (int_eq (letter_at w (p + 1)) (neg_ℤ (letter_at w p))) Shape fault None inside.1) [
       | inl none ↦ absurd (no_fault fault none.1)
@@ -256,8 +259,8 @@ module _ (w : Word) (braid : IsBraid w) where
     | inr at ↦ subst (Comes (Cancel p)) at.1 (range_first w (Cancel p) (ltb-false (p + 1) (length w.letters) at.0))
   ]
 
-  insert_first : (place : ℕ) (a : ℤ) (fault : BraidMoveFault) → first_fault w (Insert place a) ≡ Some fault → Comes (Insert place a) fault
-  insert_first place a fault found = elim (refused (nat_le place (length w.letters) && not (is_outside w.strands a)) Range fault _ found) [
+  insert_first : (place : ℕ) (a : ℤ) (fault : BraidMoveFault) → first_step_fault w (Insert place a) ≡ Some fault → Comes (Insert place a) fault
+  insert_first place a fault found = elim (refused (nat_le place (length w.letters) && not (is_outside_strands w.strands a)) Range fault _ found) [
     | inl inside ↦ elim (refused (nat_le (length w.letters + 2 + 2 * w.strands) MAX_SIZE) Full fault None inside.1) [
       | inl none ↦ absurd (no_fault fault none.1)
       | inr at ↦ subst (Comes (Insert place a)) at.1
@@ -275,13 +278,13 @@ module _ (w : Word) (braid : IsBraid w) where
           let parts = length-append (take place w.letters) (drop place w.letters) in
           absurd (omega (arith, more, room, now, was, parts))
 
-  turn_first : (k : ℕ) (fault : BraidMoveFault) → first_fault w (Turn k) ≡ Some fault → Comes (Turn k) fault
+  turn_first : (k : ℕ) (fault : BraidMoveFault) → first_step_fault w (Turn k) ≡ Some fault → Comes (Turn k) fault
   turn_first k fault found = elim (refused (nat_lt 0 k && nat_lt k (length w.letters)) Range fault None found) [
     | inl none ↦ absurd (no_fault fault none.1)
     | inr at ↦ subst (Comes (Turn k)) at.1 (range_first w (Turn k) (shift_outside (length w.letters) k at.0))
   ]
 
-  grow_first : (positive : Bool) (fault : BraidMoveFault) → first_fault w (Grow positive) ≡ Some fault → Comes (Grow positive) fault
+  grow_first : (positive : Bool) (fault : BraidMoveFault) → first_step_fault w (Grow positive) ≡ Some fault → Comes (Grow positive) fault
   grow_first positive fault found =
       elim (refused (nat_lt w.strands MAX_STRANDS && nat_le (length w.letters + 3 + 2 * w.strands) MAX_SIZE) Full fault None found) [
         | inl none ↦ absurd (no_fault fault none.1)
@@ -294,11 +297,11 @@ module _ (w : Word) (braid : IsBraid w) where
         | inl many ↦ let le = ltb-false w.strands MAX_STRANDS many in let most = after.most in absurd (omega (arith, le, most))
         | inr long ↦ let more = leb-false (length w.letters + 3 + 2 * w.strands) MAX_SIZE long in
             let room = after.room in
-            let now = length-append w.letters (crossing w.strands positive ∷ []) in
+            let now = length-append w.letters (letter_of_crossing w.strands positive ∷ []) in
             absurd (omega (arith, more, room, now))
       ]
 
-  shrink_first : (fault : BraidMoveFault) → first_fault w Shrink ≡ Some fault → Comes Shrink fault
+  shrink_first : (fault : BraidMoveFault) → first_step_fault w Shrink ≡ Some fault → Comes Shrink fault
   shrink_first fault found = elim (refused (may_shrink w) Shape fault None found) [
     | inl none ↦ absurd (no_fault fault none.1)
     | inr at ↦ subst (Comes Shrink) at.1 (shape_first w Shrink (λ is. is)
@@ -306,7 +309,7 @@ module _ (w : Word) (braid : IsBraid w) where
         (subst (λ (v : Word). may_shrink v ≡ true) grown.grown (shrinks grown.before grown.positive grown.braid))) (λ is. is))
   ]
 
-  pub step_first : (step : BraidMove) (fault : BraidMoveFault) → first_fault w step ≡ Some fault → Comes step fault
+  pub step_first : (step : BraidMove) (fault : BraidMoveFault) → first_step_fault w step ≡ Some fault → Comes step fault
   step_first (Far p) fault found = far_first p fault found
   step_first (Triple p) fault found = triple_first p fault found
   step_first (Cancel p) fault found = cancel_first p fault found
@@ -321,7 +324,7 @@ module _ (w : Word) (braid : IsBraid w) where
   abbrev Never : BraidMoveFault → Type 0
   Never fault = ⊥
 
-  pub step_holds : (step : BraidMove) → first_fault w step ≡ None → (fault : BraidMoveFault) → IsStepFault w step fault → ⊥
+  pub step_holds : (step : BraidMove) → first_step_fault w step ≡ None → (fault : BraidMoveFault) → IsStepFault w step fault → ⊥
   step_holds (Far p) none =
       let inside = passed (nat_lt (p + 1) (length w.letters)) Range _ none in
       let far = passed (are_far (letter_at w p) (letter_at w (p + 1))) Shape None inside.1 in
@@ -338,7 +341,7 @@ module _ (w : Word) (braid : IsBraid w) where
       each (Has (Cancel p)) Never (below (p + 1) (length w.letters) inside.0)
       (λ other. other ((Decides-int_eq (letter_at w (p + 1)) (neg_ℤ (letter_at w p))).0 two.0)) (λ is. is) (λ is. is)
   step_holds (Insert place a) none =
-      let inside = passed (nat_le place (length w.letters) && not (is_outside w.strands a)) Range _ none in
+      let inside = passed (nat_le place (length w.letters) && not (is_outside_strands w.strands a)) Range _ none in
       each (Has (Insert place a)) Never (insert_inside w.strands (length w.letters) place a inside.0) (λ is. is)
       (λ full. full (step_braid w braid (Insert place a) none)) (λ is. is)
   step_holds (Turn k) none =

@@ -6,7 +6,7 @@ use Rattle.braid_moves.specs.declared.step.BraidMove.TheVariants.{Far, Triple, C
 use Rattle.text_lines.specs.Lines.{Text}
 use Rattle.text_items.specs.declared.reading.TheConstants.{MAX_PLACE, MAX_LETTER}
 use Rattle.text_items.specs.Braids.{letter_of}
-use Rattle.knot_text.specs.BraidSteps.{last_letter, bounded_letter, insert, grow, shrink, step_at, next_step, steps_item}
+use Rattle.knot_text.specs.BraidSteps.{last_letter, bounded_letter, insert, grow, shrink, step_at, braid_step_item, steps_item}
 use Rattle.knot_text.proofs.StepsAgain.{line_of}
 use Rattle.text_laws.proofs.Alike.{Alike, alike_ok, alike_err, alike_if, Same, SameRest, SameText, SameLeft, same_bind, line_bind, rest_bind}
 use Rattle.text_laws.proofs.Alike.{next_bind}
@@ -52,12 +52,12 @@ step_alike ts n m = rest_bind _ _ (token_alike ts n m) (λ t us i j.
 
 -- ---- the steps
 
-next_step_alike : (t u : Text) → SameText t u → Alike SameLeft (next_step t) (next_step u)
-unfolding next_step
+next_step_alike : (t u : Text) → SameText t u → Alike SameLeft (braid_step_item t) (braid_step_item u)
+unfolding braid_step_item
 next_step_alike t u same = next_bind _ _ _ _ same (λ ts n m v w behind. same_bind (step_alike ts n m) (λ step. alike_ok (refl, behind)))
 
 pub steps_alike : (t u : Text) → SameText t u → Alike SameLeft (steps_item t) (steps_item u)
 unfolding steps_item
 steps_alike t u same =
     next_bind _ _ _ _ same (λ ts n m v w behind. line_bind _ _ (word_alike (codes "steps") ts n m)
-    (λ us i j. same_bind (count_alike us i j) (λ count. turns_alike next_step next_step_alike count v w behind)))
+    (λ us i j. same_bind (count_alike us i j) (λ count. turns_alike braid_step_item next_step_alike count v w behind)))

@@ -11,13 +11,13 @@ use Rattle.braid_core.specs.Braid.{IsBraid}
 use Rattle.braid_moves.specs.declared.step.BraidMove.{BraidMove}
 use Rattle.braid_moves.specs.declared.step.BraidMove.TheVariants.{Far, Triple, Cancel, Insert, Turn, Grow, Shrink}
 use Rattle.text_lines.specs.Lines.{NumberedLine, Text}
-use Rattle.text_lines.specs.Numbers.{number_of}
+use Rattle.text_lines.specs.NumberTokens.{number_of}
 use Rattle.text_items.specs.declared.fault.TextFault.{TextFault}
 use Rattle.text_items.specs.declared.reading.TheConstants.{MAX_NUMBER, MAX_PLACE, MAX_LETTER}
 use Rattle.text_items.specs.Reading.{in_turn}
 use Rattle.text_items.specs.Braids.{letter_of}
 use Rattle.verdict_text.specs.Moves.{one_place}
-use Rattle.knot_text.specs.BraidSteps.{last_letter, bounded_letter, insert, grow, shrink, step_at, next_step, steps_item}
+use Rattle.knot_text.specs.BraidSteps.{last_letter, bounded_letter, insert, grow, shrink, step_at, braid_step_item, steps_item}
 use Rattle.knot_text.specs.BraidChecks.{braidcheck_in}
 use Rattle.knot_text.specs.Printed.{letter_token, braid_lines, step_tokens, steps_head, HasStepText, HaveStepsText}
 use Rattle.knot_text.specs.WrittenThere.{tokens_by_line, StandInFront, SaysStep, SaySteps, StepsInFront, IsBraidCheckText}
@@ -171,8 +171,8 @@ record IsNextStep (text : Text) (x : BraidMove × Text) : Type 0 where
   says : SaysStep tokens x.0
   there : StandInFront (tokens ∷ []) text x.1
 
-next_step_says : (text : Text) → Says (next_step text) (IsNextStep text)
-unfolding next_step
+next_step_says : (text : Text) → Says (braid_step_item text) (IsNextStep text)
+unfolding braid_step_item
 next_step_says text = says_bind (IsNext text) (next_says text) (λ line there.
     says_bind (IsStep line.0.tokens) (step_says line.0) (λ step is.
     says_ok (step, line.1) (record { tokens = line.0.tokens; has = is.0; says = is.1; there = there })))
@@ -185,7 +185,7 @@ record AreNextSteps (many : ℕ) (text : Text) (x : List BraidMove × Text) : Ty
   say : SaySteps lines x.0
   there : StandInFront lines text x.1
 
-next_steps_say : (count : ℕ) (text : Text) → Says (in_turn next_step count text) (AreNextSteps count text)
+next_steps_say : (count : ℕ) (text : Text) → Says (in_turn braid_step_item count text) (AreNextSteps count text)
 unfolding in_turn
 next_steps_say zero text = says_ok ([], text) (record { lines = []; count = refl; each = tt; say = tt; there = no_lines_in_front text })
 next_steps_say (suc count) text = says_bind (IsNextStep text) (next_step_says text) (λ first is.

@@ -14,7 +14,7 @@ use Rattle.text_items.specs.declared.reading.TheConstants.{MAX_PLACE, MAX_LETTER
 use Rattle.knot_text.specs.declared.braid_checks.BraidCheckText.{BraidCheckText}
 use Rattle.text_items.specs.Reading.{next_line, next_token, line_end, in_turn}
 use Rattle.text_items.specs.Braids.{letter_of}
-use Rattle.knot_text.specs.BraidSteps.{last_letter, insert, grow, shrink, step_at, next_step, step_lines, steps_item}
+use Rattle.knot_text.specs.BraidSteps.{last_letter, insert, grow, shrink, step_at, braid_step_item, step_lines, steps_item}
 use Rattle.knot_text.specs.BraidChecks.{braidcheck_in, braidcheck_of}
 use Rattle.knot_text.specs.Printed.{letter_token, braid_lines, sign_word, step_tokens, steps_head, steps_lines, steps_text, HasStepText, HaveStepsText}
 use Rattle.knot_text.specs.WrittenThere.{tokens_by_line, said_by, SaysStep, SaySteps, AreStepsLines, StepsInFront, IsBraidCheckText}
@@ -62,8 +62,8 @@ step_again n step tokens fits (inr minus) =
 -- ---- the item
 
 next_again : (n : ℕ) (step : BraidMove) (tokens : List (List ℕ)) (rest : Text) → HasStepText step → SaysStep tokens step
-    → next_step (lines_before (line_of (n + 1) tokens ∷ []) rest) ≡ Ok (step, rest)
-unfolding next_step next_line
+    → braid_step_item (lines_before (line_of (n + 1) tokens ∷ []) rest) ≡ Ok (step, rest)
+unfolding braid_step_item next_line
 next_again n step tokens rest fits says = rw (step_again (n + 1) step tokens fits says) refl
 
 step_lines_again : (n : ℕ) (lines : List (List (List ℕ))) (steps : List BraidMove) (text : Text) → AllByRecursion HasStepText steps → SaySteps lines steps

@@ -3,7 +3,7 @@ use Rattle.std.proofs.Common.{◌≡◌, ℕ, ◌||◌, Bool, true, false, List,
 use Rattle.std.specs.Str.{bytes_eq}
 use Rattle.quandle_core.specs.Names.{NamedQuandle}
 use Rattle.text_lines.specs.Lines.{NumberedLine, Text}
-use Rattle.text_lines.specs.Numbers.{is_number}
+use Rattle.text_lines.specs.NumberTokens.{is_number}
 use Rattle.text_items.specs.declared.fault.TextFault.{TextFault}
 use Rattle.text_items.specs.declared.fault.TextFault.TheVariants.{Malformed, Limit}
 use Rattle.text_items.specs.declared.quandles.Written.{Written}

@@ -6,7 +6,7 @@ use Rattle.std.specs.Fmt.{decimal}
 use Rattle.std.proofs.lemmas.Bool.{le-leb}
 use Rattle.quandle_core.specs.Quandle.{Table, IsQuandle}
 use Rattle.cocycle_core.specs.Cocycle.{Cochain, IsCocycle}
-use Rattle.cocycle_core.specs.Fault.{first_fault}
+use Rattle.cocycle_core.specs.Fault.{first_cocycle_fault}
 use Rattle.cocycle_core.proofs.Accepted.{none_from_cocycle}
 use Rattle.text_lines.specs.Lines.{Text, text_of}
 use Rattle.text_lines.specs.Spelled.{numbered}
@@ -42,7 +42,7 @@ cochain_alike : (q : Table) (k : ℕ) (t u : Text) → SameText t u → Alike Sa
 unfolding cochain_item
 cochain_alike q k t u same = text_bind _ _ (rows_alike q.order k (q.order - 1) t u same) (λ front v w behind.
     next_bind _ _ _ _ behind (λ ts n m x y left. same_bind (below_alike q.order k ts n m) (λ row.
-    alike_if (is_none (first_fault (cochain q k (front ++ row)))) (alike_ok (refl, left)) alike_err)))
+    alike_if (is_none (first_cocycle_fault (cochain q k (front ++ row)))) (alike_ok (refl, left)) alike_err)))
 
 cocycle_alike : (q : Table) (t u : Text) → SameText t u → Alike SameLeft (cocycle_item q t) (cocycle_item q u)
 unfolding cocycle_item

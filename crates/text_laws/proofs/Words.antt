@@ -5,7 +5,7 @@ use Rattle.std.proofs.lemmas.Bool.{and_parts, leb-true, and_from, both_ways, not
 use Rattle.std.proofs.lemmas.List.Quantifiers.{position-Some}
 use Rattle.grid_core.specs.declared.grid.TheConstants.{MAX_SIZE}
 use Rattle.braid_core.specs.Braid.{Word, IsBraid}
-use Rattle.braid_core.specs.Fault.{is_outside, first_fault}
+use Rattle.braid_core.specs.Fault.{is_outside_strands, first_word_fault}
 use Rattle.braid_core.specs.declared.braid.TheConstants.{MAX_STRANDS}
 use Rattle.braid_core.specs.declared.fault.BraidFault.{BraidFault}
 use Rattle.braid_core.specs.declared.fault.BraidFault.TheVariants.{Strands, Letter, Size, OutOfMemory}
@@ -64,18 +64,22 @@ module _ (b : Word) where
         | inr many ↦ absurd (omega (arith, many, most))
       ]
 
-  letter_fails : (place : ℕ) → place < length b.letters → is_outside b.strands (get_or b.letters place (pos 0)) ≡ true → IsWordFault b (Letter place)
-  letter_fails place lt e =
-      (lt, λ letter. both_ways (is_outside b.strands (get_or b.letters place (pos 0))) (letter_not_outside b.strands (get_or b.letters place (pos 0)) letter) e)
+  letter_fails : (place : ℕ) → place < length b.letters → is_outside_strands b.strands (get_or b.letters place (pos 0)) ≡ true → IsWordFault b (Letter place)
+  letter_fails place lt e = (
+    lt,
+    λ letter. both_ways (is_outside_strands b.strands (get_or b.letters place (pos 0)))
+        (letter_not_outside b.strands (get_or b.letters place (pos 0)) letter) e,
+  )
 
-  letter_holds : (place : ℕ) → is_outside b.strands (get_or b.letters place (pos 0)) ≡ false → IsWordFault b (Letter place) → ⊥
+  letter_holds : (place : ℕ) → is_outside_strands b.strands (get_or b.letters place (pos 0)) ≡ false → IsWordFault b (Letter place) → ⊥
   letter_holds place e fails = fails.1 (letter_from b.strands (get_or b.letters place (pos 0)) e)
 
-  no_letter : position (is_outside b.strands) b.letters ≡ None → (place : ℕ) → IsWordFault b (Letter place) → ⊥
+  no_letter : position (is_outside_strands b.strands) b.letters ≡ None → (place : ℕ) → IsWordFault b (Letter place) → ⊥
   no_letter none place fails = fails.1 (none_letters b.strands b.letters none place (pos 0) fails.0)
 
   -- before the size come strands and letters
-  before_size : few_or_many ≡ false → position (is_outside b.strands) b.letters ≡ None → (other : BraidFault) → word_rank other < 2 → IsWordFault b other → ⊥
+  before_size : few_or_many ≡ false → position (is_outside_strands b.strands) b.letters ≡ None → (other : BraidFault) → word_rank other < 2
+      → IsWordFault b other → ⊥
   before_size strands letters Strands low fails = strands_hold strands fails
   before_size strands letters (Letter place) low fails = no_letter letters place fails
   before_size strands letters Size low fails = absurd (omega (arith, low))
@@ -87,7 +91,7 @@ module _ (b : Word) where
   before_letters strands Size low fails = absurd (omega (arith, low))
   before_letters strands OutOfMemory low fails = fails
 
-  lower_letters : (place : ℕ) → ((k : ℕ) → k < place → is_outside b.strands (get_or b.letters k (pos 0)) ≡ false)
+  lower_letters : (place : ℕ) → ((k : ℕ) → k < place → is_outside_strands b.strands (get_or b.letters k (pos 0)) ≡ false)
       → (other : BraidFault) → word_rank other ≡ 1 → word_number other < place → IsWordFault b other → ⊥
   lower_letters place before Strands rank low fails = absurd (omega (arith, rank))
   lower_letters place before (Letter k) rank low fails = letter_holds k (before k low) fails
@@ -101,13 +105,13 @@ module _ (b : Word) where
     lower = λ other rank low fails. absurd (omega (arith, low));
   }
 
-  letter_first : few_or_many ≡ false → (place : ℕ) → position (is_outside b.strands) b.letters ≡ Some place
+  letter_first : few_or_many ≡ false → (place : ℕ) → position (is_outside_strands b.strands) b.letters ≡ Some place
       → IsFirst (IsWordFault b) word_rank word_number (Letter place)
   letter_first e place here =
-      let at = position-Some (is_outside b.strands) b.letters place (pos 0) here in
+      let at = position-Some (is_outside_strands b.strands) b.letters place (pos 0) here in
       record { fails = letter_fails place at.0 at.1; earlier = before_letters e; lower = lower_letters place at.2 }
 
-  size_first : few_or_many ≡ false → position (is_outside b.strands) b.letters ≡ None → nat_lt MAX_SIZE (length b.letters + 2 * b.strands) ≡ true
+  size_first : few_or_many ≡ false → position (is_outside_strands b.strands) b.letters ≡ None → nat_lt MAX_SIZE (length b.letters + 2 * b.strands) ≡ true
       → IsFirst (IsWordFault b) word_rank word_number Size
   size_first strands letters e = record {
     fails = ltb-true MAX_SIZE (length b.letters + 2 * b.strands) e;
@@ -115,10 +119,10 @@ module _ (b : Word) where
     lower = λ other rank low fails. absurd (omega (arith, low));
   }
 
-  pub word_first : (fault : BraidFault) → first_fault b ≡ Some fault → IsFirst (IsWordFault b) word_rank word_number fault
+  pub word_first : (fault : BraidFault) → first_word_fault b ≡ Some fault → IsFirst (IsWordFault b) word_rank word_number fault
   word_first fault found = elim (tested few_or_many Strands fault _ found) [
     | inl at ↦ subst (IsFirst (IsWordFault b) word_rank word_number) at.1 (strands_first at.0)
-    | inr strands ↦ elim (placed (position (is_outside b.strands) b.letters) (λ place. Letter place) fault _ strands.1) [
+    | inr strands ↦ elim (placed (position (is_outside_strands b.strands) b.letters) (λ place. Letter place) fault _ strands.1) [
       | inl at ↦ subst (IsFirst (IsWordFault b) word_rank word_number) at.1.1 (letter_first strands.0 at.0 at.1.0)
       | inr letters ↦ elim (tested (nat_lt MAX_SIZE (length b.letters + 2 * b.strands)) Size fault None letters.1) [
         | inl at ↦ subst (IsFirst (IsWordFault b) word_rank word_number) at.1 (size_first strands.0 letters.0 at.0)
@@ -127,5 +131,5 @@ module _ (b : Word) where
     ]
   ]
 
-  pub word_holds : first_fault b ≡ None → (fault : BraidFault) → IsWordFault b fault → ⊥
+  pub word_holds : first_word_fault b ≡ None → (fault : BraidFault) → IsWordFault b fault → ⊥
   word_holds none = braid_holds b (none_braid b none)

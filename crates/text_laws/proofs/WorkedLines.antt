@@ -1,7 +1,7 @@
 -- Texts, tokens and numbers that were cut and read by hand.
 use Rattle.std.proofs.Common.{◌≡◌, [], ◌∷◌, codes, refl, Some, None}
 use Rattle.text_lines.specs.Lines.{text_of}
-use Rattle.text_lines.specs.Numbers.{number_of}
+use Rattle.text_lines.specs.NumberTokens.{number_of}
 use Rattle.text_lines.specs.Spelled.{line_text}
 
 -- a blank line and a remark are counted, a tab parts tokens, one carriage return is dropped, and the last line lacks its feed

@@ -18,7 +18,7 @@ use Rattle.braid_core.specs.FixedPoints.{wide_fault}
 use Rattle.braid_moves.specs.declared.step.BraidMove.TheVariants.{Far, Cancel, Insert, Grow}
 use Rattle.braid_moves.specs.declared.step.BraidMoveFault.TheVariants.{Range, Full}
 use Rattle.braid_moves.specs.Step.{moved}
-use Rattle.braid_moves.specs.Fault.{first_fault}
+use Rattle.braid_moves.specs.Fault.{first_step_fault}
 use Rattle.crossing_codes.specs.declared.crossing.Code.{Code}
 use Rattle.crossing_codes.specs.declared.crossing.Crossing.{Crossing}
 use Rattle.crossing_codes.specs.Edges.{loops}
@@ -27,7 +27,7 @@ use Rattle.crossing_codes.specs.EdgeColouring.{edge_colours}
 use Rattle.crossing_codes.specs.CodeColouring.{is_edge, is_code_colouring}
 use Rattle.next_moves.specs.Tries.{Try, tries}
 use Rattle.next_moves.specs.Offers.{is_offered}
-use Rattle.text_laws.specs.Words.{word}
+use Rattle.text_laws.specs.Words.{braid_word}
 
 -- the one place beside each constant that says its number
 most_colourings : MAX_COLOURINGS ≡ 65536
@@ -49,47 +49,47 @@ sixteen_fit = refl
 seventeen_do_not : fits (trivial 17) four_unknots ≡ false
 seventeen_do_not = refl
 
-seventeen_are_wide : wide_fault (trivial 17) (word 4 []) ≡ Some (TooWide 4)
+seventeen_are_wide : wide_fault (trivial 17) (braid_word 4 []) ≡ Some (TooWide 4)
 seventeen_are_wide = refl
 
 -- ---- legal steps of braids, and those for which there is no room
 
-far_is_legal : first_fault (word 4 (pos 1 ∷ negsuc 2 ∷ [])) (Far 0) ≡ None
+far_is_legal : first_step_fault (braid_word 4 (pos 1 ∷ negsuc 2 ∷ [])) (Far 0) ≡ None
 far_is_legal = refl
 
-far_leads : moved (word 4 (pos 1 ∷ negsuc 2 ∷ [])) (Far 0) ≡ word 4 (negsuc 2 ∷ pos 1 ∷ [])
+far_leads : moved (braid_word 4 (pos 1 ∷ negsuc 2 ∷ [])) (Far 0) ≡ braid_word 4 (negsuc 2 ∷ pos 1 ∷ [])
 far_leads = refl
 
-cancel_is_legal : first_fault (word 3 (pos 2 ∷ negsuc 0 ∷ pos 1 ∷ [])) (Cancel 1) ≡ None
+cancel_is_legal : first_step_fault (braid_word 3 (pos 2 ∷ negsuc 0 ∷ pos 1 ∷ [])) (Cancel 1) ≡ None
 cancel_is_legal = refl
 
-insert_is_legal : first_fault (word 3 (pos 2 ∷ [])) (Insert 1 (negsuc 1)) ≡ None
+insert_is_legal : first_step_fault (braid_word 3 (pos 2 ∷ [])) (Insert 1 (negsuc 1)) ≡ None
 insert_is_legal = refl
 
-insert_behind_the_end : first_fault (word 3 (pos 2 ∷ [])) (Insert 2 (negsuc 1)) ≡ Some Range
+insert_behind_the_end : first_step_fault (braid_word 3 (pos 2 ∷ [])) (Insert 2 (negsuc 1)) ≡ Some Range
 insert_behind_the_end = refl
 
 -- two letters more than two strands have just room for, and one more than that
-insert_has_room : first_fault (word 2 (replicate (MAX_SIZE - 6) (pos 1))) (Insert 0 (pos 1)) ≡ None
+insert_has_room : first_step_fault (braid_word 2 (replicate (MAX_SIZE - 6) (pos 1))) (Insert 0 (pos 1)) ≡ None
 insert_has_room = refl
 
-insert_is_full : first_fault (word 2 (replicate (MAX_SIZE - 5) (pos 1))) (Insert 0 (pos 1)) ≡ Some Full
+insert_is_full : first_step_fault (braid_word 2 (replicate (MAX_SIZE - 5) (pos 1))) (Insert 0 (pos 1)) ≡ Some Full
 insert_is_full = refl
 
 -- range comes before room
-out_of_range_and_full : first_fault (word 2 (replicate (MAX_SIZE - 5) (pos 1))) (Insert 0 (pos 2)) ≡ Some Range
+out_of_range_and_full : first_step_fault (braid_word 2 (replicate (MAX_SIZE - 5) (pos 1))) (Insert 0 (pos 2)) ≡ Some Range
 out_of_range_and_full = refl
 
-grow_has_room : first_fault (word 2 (replicate (MAX_SIZE - 7) (pos 1))) (Grow true) ≡ None
+grow_has_room : first_step_fault (braid_word 2 (replicate (MAX_SIZE - 7) (pos 1))) (Grow true) ≡ None
 grow_has_room = refl
 
-grow_is_full : first_fault (word 2 (replicate (MAX_SIZE - 6) (pos 1))) (Grow false) ≡ Some Full
+grow_is_full : first_step_fault (braid_word 2 (replicate (MAX_SIZE - 6) (pos 1))) (Grow false) ≡ Some Full
 grow_is_full = refl
 
-last_strand : first_fault (word (MAX_STRANDS - 1) []) (Grow true) ≡ None
+last_strand : first_step_fault (braid_word (MAX_STRANDS - 1) []) (Grow true) ≡ None
 last_strand = refl
 
-no_strand_more : first_fault (word MAX_STRANDS []) (Grow true) ≡ Some Full
+no_strand_more : first_step_fault (braid_word MAX_STRANDS []) (Grow true) ≡ Some Full
 no_strand_more = refl
 
 -- ---- edges and loops

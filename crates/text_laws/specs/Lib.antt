@@ -23,7 +23,7 @@ pub use Rattle.crossing_codes.specs.EdgeColouring
 pub use Rattle.crossing_codes.specs.CodeColouring
 pub use Rattle.next_moves.specs.Tries
 pub use Rattle.text_items.specs.Reading
-pub use Rattle.text_items.specs.Numbers
+pub use Rattle.text_items.specs.NumberLines
 pub use Rattle.text_items.specs.Grids
 pub use Rattle.text_items.specs.Braids
 pub use Rattle.verdict_text.specs.Moves
@@ -39,7 +39,7 @@ pub use Rattle.knot_text.specs.Printed
 pub use Rattle.knot_text.specs.WrittenThere
 pub use Rattle.knot_text.specs.FirstBadLine
 pub use Rattle.text_lines.specs.Lines
-pub use Rattle.text_lines.specs.Numbers as NumberTokens
+pub use Rattle.text_lines.specs.NumberTokens
 pub use Rattle.text_lines.specs.Spelled
 pub use Rattle.verdict_core.specs.Diagrams
 pub use Rattle.quandle_core.specs.Names

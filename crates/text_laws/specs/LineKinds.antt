@@ -5,7 +5,7 @@ use Rattle.std.specs.List.{list_all, list_any}
 use Rattle.std.specs.Str.{bytes_eq}
 use Rattle.std.specs.Str.Parse.{digits_value}
 use Rattle.grid_core.specs.declared.grid.TheConstants.{MAX_SIZE}
-use Rattle.grid_core.specs.Fault.{first_fault}
+use Rattle.grid_core.specs.Fault.{first_grid_fault}
 use Rattle.quandle_core.specs.declared.quandle.TheConstants.{MAX_ORDER}
 use Rattle.quandle_core.specs.Tables.{is_unit}
 use Rattle.colour_rows.specs.Colouring.{are_colours}
@@ -13,7 +13,7 @@ use Rattle.braid_core.specs.declared.braid.TheConstants.{MAX_STRANDS}
 use Rattle.text_lines.specs.declared.numbers.TheConstants.{MAX_DIGITS}
 use Rattle.text_items.specs.declared.reading.TheConstants.{MAX_NUMBER, MAX_PLACE, MAX_LETTER}
 use Rattle.text_lines.specs.Lines.{NumberedLine, starts}
-use Rattle.text_lines.specs.Numbers.{is_number}
+use Rattle.text_lines.specs.NumberTokens.{is_number}
 use Rattle.text_items.specs.declared.fault.TextFault.{TextFault}
 use Rattle.text_items.specs.declared.fault.TextFault.TheVariants.{Malformed, Limit}
 use Rattle.verdict_text.specs.declared.verdicts.TheConstants.{TIDY_VERSION}
@@ -79,7 +79,7 @@ abbrev pub x_kind : LineKind
 x_kind = row_kind (codes "x") (λ rows. are_rows rows)
 
 abbrev pub o_kind : List ℕ → LineKind
-o_kind x = row_kind (codes "o") (λ rows. is_none (first_fault x rows))
+o_kind x = row_kind (codes "o") (λ rows. is_none (first_grid_fault x rows))
 
 abbrev pub colours_kind : ℕ → ℕ → LineKind
 colours_kind width order = row_kind (codes "colours") (λ colours. are_colours width order colours)

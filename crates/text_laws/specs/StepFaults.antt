@@ -5,7 +5,7 @@ use Rattle.braid_moves.specs.declared.step.BraidMove.{BraidMove}
 use Rattle.braid_moves.specs.declared.step.BraidMove.TheVariants.{Far, Triple, Cancel, Insert, Turn, Grow, Shrink}
 use Rattle.braid_moves.specs.declared.step.BraidMoveFault.{BraidMoveFault}
 use Rattle.braid_moves.specs.declared.step.BraidMoveFault.TheVariants.{Range, Shape, Full, OutOfMemory}
-use Rattle.braid_moves.specs.Step.{letter_at, crossing, moved}
+use Rattle.braid_moves.specs.Step.{letter_at, letter_of_crossing, moved}
 
 -- a step names a letter, a place or a turn that is not there
 abbrev pub LacksLetters : Word → BraidMove → Type 0
@@ -27,8 +27,8 @@ pub record IsTriple (a b c : ℤ) : Type 0 where
   pub first : ℕ
   pub second : ℕ
   pub positive : Bool
-  pub here : a ≡ crossing first positive
-  pub between : b ≡ crossing second positive
+  pub here : a ≡ letter_of_crossing first positive
+  pub between : b ≡ letter_of_crossing second positive
   pub beside : (first + 1 ≡ second) ⊎ (second + 1 ≡ first)
 
 -- a word is what a new strand makes of a braid

@@ -2,5 +2,5 @@
 use Rattle.std.specs.Prelude.{ℕ, ℤ, List}
 use Rattle.braid_core.specs.Braid.{Word}
 
-abbrev pub word : ℕ → List ℤ → Word
-word m letters = record { strands = m; letters = letters }
+abbrev pub braid_word : ℕ → List ℤ → Word
+braid_word m letters = record { strands = m; letters = letters }

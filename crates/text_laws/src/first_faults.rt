@@ -1,15 +1,15 @@
 //! The first fault of a braid word, of a step, of a diagram and of a move comes first among all that there are.
 ghost use Rattle.std.specs.Prelude.{◌≡◌, ◌↔◌, Some};
 ghost use Rattle.grid_core.specs.Diagram.{Diagram};
-ghost use Rattle.grid_core.specs.Fault.{first_fault as first_grid_fault};
+ghost use Rattle.grid_core.specs.Fault.{first_grid_fault};
 ghost use Rattle.grid_core.specs.declared.fault.GridFault.{GridFault};
-ghost use Rattle.grid_moves.specs.MoveFault.{first_fault as first_move_fault};
+ghost use Rattle.grid_moves.specs.MoveFault.{first_move_fault};
 ghost use Rattle.grid_moves.specs.declared.step.Move.{Move};
 ghost use Rattle.grid_moves.specs.declared.step.MoveFault.{MoveFault};
 ghost use Rattle.braid_core.specs.Braid.{Word, IsBraid};
-ghost use Rattle.braid_core.specs.Fault.{first_fault as first_word_fault};
+ghost use Rattle.braid_core.specs.Fault.{first_word_fault};
 ghost use Rattle.braid_core.specs.declared.fault.BraidFault.{BraidFault};
-ghost use Rattle.braid_moves.specs.Fault.{first_fault as first_step_fault};
+ghost use Rattle.braid_moves.specs.Fault.{first_step_fault};
 ghost use Rattle.braid_moves.specs.declared.step.BraidMove.{BraidMove};
 ghost use Rattle.braid_moves.specs.declared.step.BraidMoveFault.{BraidMoveFault};
 ghost use Rattle.text_laws.specs.First.{IsFirst};

@@ -5,7 +5,7 @@ ghost use Rattle.grid_core.specs.declared.grid.TheConstants.{MAX_SIZE};
 ghost use Rattle.quandle_core.specs.declared.quandle.TheConstants.{MAX_ORDER};
 ghost use Rattle.quandle_core.specs.Quandle.{Table};
 ghost use Rattle.quandle_core.specs.Fault.{first_fault_within};
-ghost use Rattle.cocycle_core.specs.Fault.{first_fault as cochain_fault};
+ghost use Rattle.cocycle_core.specs.Fault.{first_cocycle_fault as cochain_fault};
 ghost use Rattle.arrayvec.specs.ArrayVec.{ArrayVec};
 ghost use Rattle.colour_list.specs.declared.limits.TheConstants.{MAX_COLOURINGS};
 ghost use Rattle.text_items.specs.declared.reading.TheConstants.{MAX_NUMBER};
@@ -18,7 +18,7 @@ ghost use Rattle.text_lines.specs.Spelled.{lines_text};
 ghost use Rattle.verdict_core.specs.declared.diagrams.Diagram.TheVariants as diagram;
 ghost use Rattle.quandle_core.specs.Names.{NamedQuandle};
 ghost use Rattle.text_items.specs.Quandles.{built_in};
-ghost use Rattle.text_items.specs.Numbers.{numbers_below};
+ghost use Rattle.text_items.specs.NumberLines.{numbers_below};
 ghost use Rattle.text_items.specs.Grids.{are_rows, x_at, o_at, grid_item};
 ghost use Rattle.text_items.specs.Braids.{braid_at, braid_item};
 ghost use Rattle.verdict_text.specs.Moves.{move_at, move_lines, tidy_moves, moves_item};
@@ -26,7 +26,7 @@ ghost use Rattle.text_items.specs.declared.quandles.TheConstants.{MAX_QUANDLES};
 ghost use Rattle.text_items.specs.Quandles.{table_item, quandle_item, surplus_quandle, quandles, quandle_list};
 ghost use Rattle.knot_text.specs.Colours.{colours_at, colours_item, coloured};
 ghost use Rattle.verdict_text.specs.Verdicts.{moves_of, colour_line, list_item, verdict_of, version_at, verdict_item};
-ghost use Rattle.verdict_core.specs.Diagrams.{grid_of, columns};
+ghost use Rattle.verdict_core.specs.Diagrams.{grid_of, column_count};
 ghost use Rattle.verdict_text.specs.Diagrams.{diagram_item};
 ghost use Rattle.verdict_text.specs.Problems.{problem_item, problem_in, check_in, problem_of, check_of};
 ghost use Rattle.knot_text.specs.Shapes.{replay_in, colour_in, close_in, lone_diagram_in, replay_of, colour_of, close_of, lone_diagram_of};
@@ -87,9 +87,9 @@ pub fn a_printed_verdict_is_read()
 /// the problem lacks one.
 pub fn a_verdict_behind_its_problem_is_read()
     ensures whole { (version : Version) (bytes : List ℕ) (p : ProblemText) (v : Verdict) → are_whole_lines bytes ≡ true → problem_of bytes ≡ Ok p
-        → HasVersionText version (columns p.first) (columns p.second) v → check_of (bytes ++ version_text version v) ≡ Ok (p, v) }
+        → HasVersionText version (column_count p.first) (column_count p.second) v → check_of (bytes ++ version_text version v) ≡ Ok (p, v) }
     ensures feed { (version : Version) (bytes : List ℕ) (p : ProblemText) (v : Verdict) → are_whole_lines bytes ≡ false → problem_of bytes ≡ Ok p
-        → HasVersionText version (columns p.first) (columns p.second) v → check_of (bytes ++ (codes "\n" ++ version_text version v)) ≡ Ok (p, v) }
+        → HasVersionText version (column_count p.first) (column_count p.second) v → check_of (bytes ++ (codes "\n" ++ version_text version v)) ≡ Ok (p, v) }
 {}
 
 /// Two printed grids and a printed verdict are a problem with the built-in list of quandles, and this verdict.
@@ -206,9 +206,9 @@ pub fn a_text_fails_by_its_items_in_turn()
         ≡ item_then (diagram_item text) (λ first text. item_then (diagram_item text) (λ second text. read_fault (quandle_list text))) }
     ensures problem { (text : Text) → read_fault (problem_in text) ≡ item_then (problem_item text) (λ problem text. end_fault text) }
     ensures check { (text : Text) → read_fault (check_in text) ≡ item_then (problem_item text)
-        (λ problem text. item_then (verdict_item (columns problem.first) (columns problem.second) text) (λ verdict text. end_fault text)) }
+        (λ problem text. item_then (verdict_item (column_count problem.first) (column_count problem.second) text) (λ verdict text. end_fault text)) }
     ensures replay { (text : Text) → read_fault (replay_in text) ≡ item_then (diagram_item text)
-        (λ diagram text. item_then (moves_item text) (λ moves text. item_then (coloured (columns diagram) text) (λ colours text. end_fault text))) }
+        (λ diagram text. item_then (moves_item text) (λ moves text. item_then (coloured (column_count diagram) text) (λ colours text. end_fault text))) }
     ensures colour { (text : Text) → read_fault (colour_in text)
         ≡ item_then (diagram_item text) (λ diagram text. item_then (quandle_list text) (λ quandles text. end_fault text)) }
     ensures close { (text : Text) → read_fault (close_in text)
@@ -255,13 +255,13 @@ pub fn a_problem_is_read_before_other_lines()
 pub fn a_read_diagram_has_a_grid()
     ensures grid { (text : Text) (d : Diagram) (rest : Text) → diagram_item text ≡ Ok (d, rest) → IsGrid (grid_of d) }
     ensures braid { (b : Word) → IsBraid b → IsGrid (grid_of (diagram.Braid b)) }
-    ensures columns { (b : Word) → IsBraid b → columns (diagram.Braid b) ≡ closure_size b }
+    ensures columns { (b : Word) → IsBraid b → column_count (diagram.Braid b) ≡ closure_size b }
 {}
 
 /// The colours that a replay is given are one below the order of their quandle for each column of its diagram.
 pub fn the_colours_of_a_replay_are_colours()
     ensures { (bytes : List ℕ) (r : ReplayText) (q : NamedQuandle) (c : ArrayVec ℕ) → replay_of bytes ≡ Ok r → r.colours ≡ Some (q, c)
-        → AreColours (columns r.diagram) q.table.order c.items }
+        → AreColours (column_count r.diagram) q.table.order c.items }
 {}
 
 /// An item is read as a value exactly where the value has a text and the lines of this text stand in front of what is
@@ -320,6 +320,6 @@ pub fn a_printed_problem_is_read()
     ensures problem { (listed : List NamedQuandle) (p : ProblemText) → HasProblemText listed p
         → problem_of (lines_text (problem_lines listed p)) ≡ Ok p }
     ensures check { (version : Version) (listed : List NamedQuandle) (p : ProblemText) (v : Verdict) → HasProblemText listed p
-        → HasVersionText version (columns p.first) (columns p.second) v
+        → HasVersionText version (column_count p.first) (column_count p.second) v
         → check_of (lines_text (problem_lines listed p ++ version_lines version v)) ≡ Ok (p, v) }
 {}

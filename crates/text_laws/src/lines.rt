@@ -4,7 +4,7 @@ ghost use Rattle.std.specs.Str.Parse.{AllDigits};
 ghost use Rattle.std.specs.List.{list_all};
 ghost use Rattle.std.specs.Fmt.{decimal};
 ghost use Rattle.text_lines.specs.Lines.{line_count, are_whole_lines, text_from};
-ghost use Rattle.text_lines.specs.Numbers.{number_of};
+ghost use Rattle.text_lines.specs.NumberTokens.{number_of};
 ghost use Rattle.text_lines.specs.Spelled.{lines_text, is_line, numbered};
 ghost use Rattle.text_lines.specs.declared.numbers.TheConstants.{MAX_DIGITS, OVERLONG};
 

@@ -2,7 +2,7 @@
 ghost use Rattle.std.specs.Prelude.{◌≡◌, ◌↔◌, ◌<◌, ◌≤◌, ◌+◌, ◌++◌, ◌∷◌, [], ℕ, ℤ, Bool, List, true, length, map, take, drop, slice_index, neg_ℤ, Contains, AllPairs};
 ghost use Rattle.grid_core.specs.Diagram.{Diagram, size};
 ghost use Rattle.quandle_core.specs.Quandle.{Table};
-ghost use Rattle.braid_moves.specs.Step.{crossing, moved};
+ghost use Rattle.braid_moves.specs.Step.{letter_of_crossing, moved};
 ghost use Rattle.braid_moves.specs.declared.step.BraidMove.TheVariants as step;
 ghost use Rattle.crossing_codes.specs.declared.crossing.Code.{Code};
 ghost use Rattle.crossing_codes.specs.declared.crossing.Crossing.{Crossing};
@@ -12,25 +12,25 @@ ghost use Rattle.crossing_codes.specs.Edges.{loops};
 ghost use Rattle.crossing_codes.specs.EdgeColouring.{edge_colours, arriving};
 ghost use Rattle.crossing_codes.specs.CodeColouring.{is_code_colouring};
 ghost use Rattle.next_moves.specs.Tries.{Try, tries};
-ghost use Rattle.text_laws.specs.Words.{word};
+ghost use Rattle.text_laws.specs.Words.{braid_word};
 ghost use Rattle.text_laws.specs.Named.{NamesOnly};
 ghost use Rattle.text_laws.specs.Parts.{part};
 
 /// Each step of a braid word puts letters in the place of others, and leaves those in front and behind as they are.
 pub fn a_step_rewrites_letters_in_their_place()
     ensures far { (m : ℕ) (front back : List ℤ) (a b : ℤ)
-        → moved (word m (front ++ a ∷ b ∷ back)) (step.Far (length front)) ≡ word m (front ++ b ∷ a ∷ back) }
+        → moved (braid_word m (front ++ a ∷ b ∷ back)) (step.Far (length front)) ≡ braid_word m (front ++ b ∷ a ∷ back) }
     ensures triple { (m : ℕ) (front back : List ℤ) (a b : ℤ)
-        → moved (word m (front ++ a ∷ b ∷ a ∷ back)) (step.Triple (length front)) ≡ word m (front ++ b ∷ a ∷ b ∷ back) }
+        → moved (braid_word m (front ++ a ∷ b ∷ a ∷ back)) (step.Triple (length front)) ≡ braid_word m (front ++ b ∷ a ∷ b ∷ back) }
     ensures cancel { (m : ℕ) (front back : List ℤ) (a : ℤ)
-        → moved (word m (front ++ a ∷ neg_ℤ a ∷ back)) (step.Cancel (length front)) ≡ word m (front ++ back) }
+        → moved (braid_word m (front ++ a ∷ neg_ℤ a ∷ back)) (step.Cancel (length front)) ≡ braid_word m (front ++ back) }
     ensures insert { (m : ℕ) (front back : List ℤ) (a : ℤ)
-        → moved (word m (front ++ back)) (step.Insert (length front) a) ≡ word m (front ++ a ∷ neg_ℤ a ∷ back) }
-    ensures turn { (m : ℕ) (front back : List ℤ) → moved (word m (front ++ back)) (step.Turn (length front)) ≡ word m (back ++ front) }
+        → moved (braid_word m (front ++ back)) (step.Insert (length front) a) ≡ braid_word m (front ++ a ∷ neg_ℤ a ∷ back) }
+    ensures turn { (m : ℕ) (front back : List ℤ) → moved (braid_word m (front ++ back)) (step.Turn (length front)) ≡ braid_word m (back ++ front) }
     ensures grow { (m : ℕ) (letters : List ℤ) (positive : Bool)
-        → moved (word m letters) (step.Grow positive) ≡ word (m + 1) (letters ++ crossing m positive ∷ []) }
+        → moved (braid_word m letters) (step.Grow positive) ≡ braid_word (m + 1) (letters ++ letter_of_crossing m positive ∷ []) }
     ensures shrink { (m : ℕ) (letters : List ℤ) (positive : Bool)
-        → moved (word (m + 1) (letters ++ crossing m positive ∷ [])) step.Shrink ≡ word m letters }
+        → moved (braid_word (m + 1) (letters ++ letter_of_crossing m positive ∷ [])) step.Shrink ≡ braid_word m letters }
 {}
 
 /// The loops of a diagram stand by their least columns, and are its components without a passage.

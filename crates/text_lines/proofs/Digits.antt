@@ -7,7 +7,7 @@ use Rattle.std.proofs.lemmas.Bool.{and_parts, eqb-true}
 use Rattle.std.proofs.lemmas.Bool.Decides.{nat_tests}
 use Rattle.std.proofs.lemmas.List.{nil_from_length}
 use Rattle.std.proofs.lemmas.Str.{digit_value_digit}
-use Rattle.text_lines.specs.Numbers.{is_digit, is_number}
+use Rattle.text_lines.specs.NumberTokens.{is_digit, is_number}
 
 digit_bounds : (c : ℕ) → is_digit c ≡ true → (48 ≤ c) × (c ≤ 57)
 digit_bounds c is = (grind (arith, nat_tests), grind (arith, nat_tests))

@@ -1,6 +1,6 @@
 pub mod Tokens
 pub mod Lines
-pub mod Numbers
+pub mod NumberTokens
 pub mod Spelled
 pub mod Appended
 pub mod Cut

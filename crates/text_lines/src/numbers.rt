@@ -2,7 +2,7 @@
 ghost use Rattle.std.specs.Prelude.{◌≡◌, ◌≤◌, ◌==◌, length};
 ghost use Rattle.std.specs.List.{list_all};
 ghost use Rattle.std.specs.Str.Parse.{AllDigits, digits_value};
-ghost use Rattle.text_lines.specs.Numbers.{is_digit, is_number, number_of};
+ghost use Rattle.text_lines.specs.NumberTokens.{is_digit, is_number, number_of};
 
 /// How many digits a number may have: one of more exceeds a limit.
 pub const MAX_DIGITS: usize = 9;

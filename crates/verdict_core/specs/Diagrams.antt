@@ -11,5 +11,5 @@ grid_of (Grid d) = d
 grid_of (Braid b) = closure b
 
 -- the number of its columns
-abbrev pub columns : Diagram → ℕ
-columns d = size (grid_of d)
+abbrev pub column_count : Diagram → ℕ
+column_count d = size (grid_of d)

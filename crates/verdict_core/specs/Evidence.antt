@@ -18,11 +18,11 @@ pub record TellsApart (t : Table) (d e : Diagram) (one two : List (List ℕ)) : 
   pub differ : length one ≢ length two
 
 -- the evidence holds: the moves join d to e, or the quandle tells d and e apart by these lists; an unknown verdict has none
-abbrev pub Holds : Diagram → Diagram → Verdict → Type 0
-Holds d e (Equal moves) = Joins d moves e
-Holds d e (Different listed one two) = TellsApart listed.table d e (lists_of one) (lists_of two)
-Holds d e (UnknownBudget budget) = ⊥
-Holds d e (UnknownExhausted cap admitted) = ⊥
+abbrev pub VerdictHolds : Diagram → Diagram → Verdict → Type 0
+VerdictHolds d e (Equal moves) = Joins d moves e
+VerdictHolds d e (Different listed one two) = TellsApart listed.table d e (lists_of one) (lists_of two)
+VerdictHolds d e (UnknownBudget budget) = ⊥
+VerdictHolds d e (UnknownExhausted cap admitted) = ⊥
 
 -- the verdict has evidence
 abbrev pub HasEvidence : Verdict → Type 0

@@ -1,7 +1,7 @@
 //! A diagram as it is given.
 ghost use Rattle.std.specs.Prelude.{◌≡◌, ◌≤◌};
 ghost use Rattle.grid_core.specs.declared.grid.TheConstants.{MAX_SIZE};
-ghost use Rattle.verdict_core.specs.Diagrams.{grid_of, columns};
+ghost use Rattle.verdict_core.specs.Diagrams.{grid_of, column_count};
 
 use braid_closure::close;
 use braid_core::Braid;
@@ -29,7 +29,7 @@ impl Diagram {
 
     /// The number of its columns, l + 2m for a braid of m strands and l letters, whose closure is not built.
     pub fn columns(&self) -> u8
-        ensures columns { result ≡ columns self.now }
+        ensures columns { result ≡ column_count self.now }
         ensures within { result ≤ MAX_SIZE }
     {
         match self {

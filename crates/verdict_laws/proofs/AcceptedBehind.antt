@@ -8,8 +8,8 @@ use Rattle.verdict_core.specs.declared.problem.ProblemText.{ProblemText}
 use Rattle.verdict_core.specs.declared.verdict.Verdict.{Verdict}
 use Rattle.verdict_core.specs.declared.verdict.Verdict.TheVariants.{Equal, Different, UnknownBudget, UnknownExhausted}
 use Rattle.quandle_core.specs.Names.{NamedQuandle}
-use Rattle.verdict_core.specs.Diagrams.{grid_of, columns}
-use Rattle.verdict_core.specs.Evidence.{Holds}
+use Rattle.verdict_core.specs.Diagrams.{grid_of, column_count}
+use Rattle.verdict_core.specs.Evidence.{VerdictHolds}
 use Rattle.text_items.specs.declared.reading.TheConstants.{MAX_NUMBER}
 use Rattle.verdict_text.specs.declared.verdicts.Version.TheVariants.{Tidy}
 use Rattle.text_items.specs.Quandles.{built_in, or_built_in}
@@ -83,13 +83,13 @@ short bytes (UnknownExhausted cap k) fits = search rules
 -- ---- the ruling
 
 by_lines : (bytes : List ℕ) (p : ProblemText) (v : Verdict) (t : Bool) → are_whole_lines bytes ≡ t → problem_of bytes ≡ Ok p
-    → HasVersionText Tidy (columns p.first) (columns p.second) v
+    → HasVersionText Tidy (column_count p.first) (column_count p.second) v
     → check_of (if t then bytes ++ version_text Tidy v else bytes ++ (codes "\n" ++ version_text Tidy v)) ≡ Ok (p, v)
 by_lines bytes p v true whole is text = verdict_behind Tidy bytes p v whole is text
 by_lines bytes p v false lacks is text = verdict_behind_feed Tidy bytes p v lacks is text
 
 pub accepted_behind : (bytes : List ℕ) (p : ProblemText) (v : Verdict) → problem_of bytes ≡ Ok p
-    → (HasFewMoves v → HasVersionText Tidy (columns p.first) (columns p.second) v) → Holds (grid_of p.first) (grid_of p.second) v
+    → (HasFewMoves v → HasVersionText Tidy (column_count p.first) (column_count p.second) v) → VerdictHolds (grid_of p.first) (grid_of p.second) v
     → length (put_behind bytes (version_text Tidy v)) ≤ MAX_CERTIFICATE → IsAcceptedVerdict (put_behind bytes (version_text Tidy v)) p v
 accepted_behind bytes p v is text holds fits = record {
   read = by_lines bytes p v (are_whole_lines bytes) refl is (text (short bytes v fits));

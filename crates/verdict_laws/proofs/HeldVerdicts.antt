@@ -6,7 +6,7 @@ use Rattle.verdict_core.specs.declared.problem.ProblemText.{ProblemText}
 use Rattle.verdict_core.specs.declared.verdict.Verdict.{Verdict}
 use Rattle.verdict_core.specs.declared.verdict.Verdict.TheVariants.{Equal, Different, UnknownBudget, UnknownExhausted}
 use Rattle.verdict_core.specs.Diagrams.{grid_of}
-use Rattle.verdict_core.specs.Evidence.{Claims, Holds, HasEvidence, IsTidyVerdict}
+use Rattle.verdict_core.specs.Evidence.{Claims, VerdictHolds, HasEvidence, IsTidyVerdict}
 use Rattle.quandle_core.proofs.Named.{named_is}
 use Rattle.cert_check.proofs.ToldApart.{told_apart}
 use Rattle.knot_text.specs.Printed.{version_text}
@@ -18,21 +18,21 @@ use Rattle.verdict_laws.proofs.PrintedVerdicts.{FewColourings, held_text}
 use Rattle.verdict_laws.proofs.AcceptedBehind.{accepted_behind}
 
 -- it has evidence
-evident : (d e : Diagram) (v : Verdict) → Holds d e v → HasEvidence v
+evident : (d e : Diagram) (v : Verdict) → VerdictHolds d e v → HasEvidence v
 evident d e (Equal moves) holds = search rules
 evident d e (Different q one two) holds = search rules
 evident d e (UnknownBudget budget) holds = absurd holds
 evident d e (UnknownExhausted cap k) holds = absurd holds
 
 -- what it says is true
-pub true_of : (d e : Diagram) (v : Verdict) → IsByWrittenQuandle v → Holds d e v → Claims d e v
+pub true_of : (d e : Diagram) (v : Verdict) → IsByWrittenQuandle v → VerdictHolds d e v → Claims d e v
 true_of d e (Equal moves) written holds = (moves, holds)
 true_of d e (Different q one two) named told = told_apart q.table d e (lists_of one) (lists_of two) (named_is q.name q.table named.names) told
 true_of d e (UnknownBudget budget) written holds = absurd holds
 true_of d e (UnknownExhausted cap k) written holds = absurd holds
 
 pub held_decides : FewColourings → (bytes : List ℕ) (p : ProblemText) (v : Verdict) → problem_of bytes ≡ Ok p
-    → Holds (grid_of p.first) (grid_of p.second) v → IsByWrittenQuandle v → IsTidyVerdict v → IsDecisionByVerdict bytes (version_text Tidy v)
+    → VerdictHolds (grid_of p.first) (grid_of p.second) v → IsByWrittenQuandle v → IsTidyVerdict v → IsDecisionByVerdict bytes (version_text Tidy v)
 held_decides few bytes p v read holds written tidy =
     let d = grid_of p.first in
     let e = grid_of p.second in

@@ -9,13 +9,13 @@ use Rattle.evidence_core.specs.declared.blocks.Block.{Block}
 use Rattle.evidence_core.specs.declared.evidence.Counted.{Counted}
 use Rattle.evidence_core.specs.declared.evidence.Evidence.{Evidence}
 use Rattle.evidence_core.specs.declared.evidence.Evidence.TheVariants.{Numbers, Linking}
-use Rattle.evidence_core.specs.declared.cause.Ruling.{Ruling}
-use Rattle.evidence_core.specs.declared.cause.Ruling.TheVariants.{Accepted, Rejected}
+use Rattle.evidence_core.specs.declared.cause.NumberRuling.{NumberRuling}
+use Rattle.evidence_core.specs.declared.cause.NumberRuling.TheVariants.{Accepted, Rejected}
 use Rattle.evidence_core.specs.declared.cause.Cause.{Cause}
 use Rattle.evidence_core.specs.declared.cause.Cause.TheVariants as cause
-use Rattle.number_check.specs.Cause.{IsSeedCause, IsCauseOf, counts_cause, IsCause}
+use Rattle.number_check.specs.Cause.{IsSeedCause, IsCauseOf, counts_cause, IsEvidenceCause}
 use Rattle.evidence_core.specs.Links.{cause_of_links}
-use Rattle.number_check.specs.Ruling.{RulesOn}
+use Rattle.number_check.specs.Ruling.{RulesOnNumbers}
 use Rattle.number_check.proofs.Causes.{seeds_faultless, numbers_have_no_cause}
 use Rattle.number_check.proofs.Rulings.{not_held}
 
@@ -84,7 +84,7 @@ one_cause_of b which d c x y one two = elim one [
 
 -- ---- both
 
-one_cause : (d e : Diagram) (evidence : Evidence) (x y : Cause) → IsCause d e evidence x → IsCause d e evidence y → x ≡ y
+one_cause : (d e : Diagram) (evidence : Evidence) (x y : Cause) → IsEvidenceCause d e evidence x → IsEvidenceCause d e evidence y → x ≡ y
 one_cause d e (Numbers b first second) x y one two = elim one [
   | inl of_first ↦ elim two [
     | inl others ↦ one_cause_of b 1 d first x y of_first others
@@ -106,7 +106,7 @@ one_cause d e (Numbers b first second) x y one two = elim one [
 ]
 one_cause d e (Linking first second) x y one two = some_once (cause_of_links d e first second) x y one two
 
-pub one_ruling : (d e : Diagram) (evidence : Evidence) (one two : Ruling) → RulesOn d e evidence one → RulesOn d e evidence two → one ≡ two
+pub one_ruling : (d e : Diagram) (evidence : Evidence) (one two : NumberRuling) → RulesOnNumbers d e evidence one → RulesOnNumbers d e evidence two → one ≡ two
 one_ruling d e evidence Accepted Accepted one two = refl
 one_ruling d e evidence Accepted (Rejected c) one two = absurd (not_held d e evidence c two one)
 one_ruling d e evidence (Rejected c) Accepted one two = absurd (not_held d e evidence c one two)

@@ -14,7 +14,7 @@ use Rattle.cert_check.specs.Cause.{IsCauseOfMoves}
 use Rattle.cert_check.proofs.Rulings.{ruled_once}
 use Rattle.number_check.proofs.Causes.{seeds_faultless}
 use Rattle.table_check.specs.declared.class_items.Class.{Class}
-use Rattle.table_check.specs.declared.row_items.Row.{Row}
+use Rattle.table_check.specs.declared.row_items.KnotRow.{KnotRow}
 use Rattle.table_check.specs.declared.tables.KnotTable.{KnotTable}
 use Rattle.table_check.specs.declared.cause.ClassCause.{ClassCause}
 use Rattle.table_check.specs.declared.cause.ClassCause.TheVariants.{Outside, Unsettled, Wide, Numbers}
@@ -22,9 +22,9 @@ use Rattle.table_check.specs.declared.cause.TableCause.{TableCause}
 use Rattle.table_check.specs.declared.cause.TableCause.TheVariants as cause
 use Rattle.table_check.specs.declared.cause.TableRuling.{TableRuling}
 use Rattle.table_check.specs.declared.cause.TableRuling.TheVariants.{Accepted, Rejected}
-use Rattle.table_check.specs.Holds.{numbers_at, ShownAt, ClassAt, PairsWith}
-use Rattle.table_check.specs.Cause.{shown_cause, FailsBy, IsClassCause, ClassFails, PairFails, RowFails, IsCause}
-use Rattle.table_check.specs.Ruling.{RulesOn}
+use Rattle.table_check.specs.TableHolds.{numbers_at, ShownAt, ClassAt, PairsWith}
+use Rattle.table_check.specs.Cause.{shown_cause, FailsBy, IsClassCause, ClassFails, PairFails, RowFails, IsTableCause}
+use Rattle.table_check.specs.Ruling.{RulesOnTable}
 use Rattle.table_check.proofs.Causes.{none_of_shown, class_not_held, pair_not_held, row_not_held, not_held}
 use Rattle.verdict_laws.proofs.OneRuling.{outside_once, unsettled_once, not_both}
 
@@ -109,10 +109,10 @@ one_second t first s s' before fails before' fails' = elim (cases_lt s s') [
 one_at_row : (t : KnotTable) (at : ℕ) (x y : Why) → RowFails t at x → RowFails t at y → x ≡ y
 one_at_row t at x y one two =
     let row : one.row ≡ two.row = same_Some one.row two.row (sym one.here ∙ two.here) in
-    let here : slice_get t.classes two.row.class ≡ Some one.class = subst (λ (r : Row). slice_get t.classes r.class ≡ Some one.class) row one.known in
+    let here : slice_get t.classes two.row.class ≡ Some one.class = subst (λ (r : KnotRow). slice_get t.classes r.class ≡ Some one.class) row one.known in
     let class : one.class ≡ two.class = same_Some one.class two.class (sym here ∙ two.known) in
     let by_row : IsCauseOfMoves (grid_of two.row.diagram) (grid_of one.class.diagram) two.row.moves x =
-    subst (λ (r : Row). IsCauseOfMoves (grid_of r.diagram) (grid_of one.class.diagram) r.moves x) row one.cause in
+    subst (λ (r : KnotRow). IsCauseOfMoves (grid_of r.diagram) (grid_of one.class.diagram) r.moves x) row one.cause in
     let first : IsCauseOfMoves (grid_of two.row.diagram) (grid_of two.class.diagram) two.row.moves x =
     subst (λ (c : Class). IsCauseOfMoves (grid_of two.row.diagram) (grid_of c.diagram) two.row.moves x) class by_row in
     let same : ◌≡◌ {A = Ruling} (moves.Rejected x) (moves.Rejected y) =
@@ -121,7 +121,7 @@ one_at_row t at x y one two =
 
 -- ---- a table
 
-one_cause : (t : KnotTable) (x y : TableCause) → IsCause t x → IsCause t y → x ≡ y
+one_cause : (t : KnotTable) (x y : TableCause) → IsTableCause t x → IsTableCause t y → x ≡ y
 one_cause t (cause.Class at why) (cause.Class at' why') one two = elim (cases_lt at at') [
   | inl less ↦ absurd (class_fails_not t at why one.1 (two.0 at less))
   | inr least ↦ elim (cases_lt at' at) [
@@ -164,7 +164,7 @@ one_cause t (cause.Row at w) (cause.Row at' w') one two = elim (cases_lt at at')
   ]
 ]
 
-pub one_table_ruling : (t : KnotTable) (one two : TableRuling) → RulesOn t one → RulesOn t two → one ≡ two
+pub one_table_ruling : (t : KnotTable) (one two : TableRuling) → RulesOnTable t one → RulesOnTable t two → one ≡ two
 one_table_ruling t Accepted Accepted one two = refl
 one_table_ruling t Accepted (Rejected why) one two = absurd (not_held t why two one)
 one_table_ruling t (Rejected why) Accepted one two = absurd (not_held t why one two)

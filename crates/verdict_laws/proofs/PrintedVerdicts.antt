@@ -20,7 +20,7 @@ use Rattle.colour_list.specs.declared.limits.TheConstants.{MAX_COLOURINGS}
 use Rattle.quandle_core.specs.Names.{NamedQuandle}
 use Rattle.verdict_core.specs.declared.verdict.Verdict.{Verdict}
 use Rattle.verdict_core.specs.declared.verdict.Verdict.TheVariants.{Equal, Different, UnknownBudget, UnknownExhausted}
-use Rattle.verdict_core.specs.Evidence.{Holds, TellsApart}
+use Rattle.verdict_core.specs.Evidence.{VerdictHolds, TellsApart}
 use Rattle.quandle_core.proofs.Named.{named_is}
 use Rattle.text_items.specs.declared.reading.TheConstants.{MAX_NUMBER}
 use Rattle.knot_text.specs.Printed.{HasMoveText, HaveMovesText, HasListText, HasQuandleText, HasVerdictText}
@@ -101,7 +101,7 @@ told_text few d e q one two first second named told =
     (named, lists_text q.table d one told.first of_first, lists_text q.table e two told.second of_second)
 
 -- a verdict that holds, and whose moves, if any, are few
-pub held_text : FewColourings → (d e : Diagram) (v : Verdict) → IsGrid d → IsGrid e → IsByWrittenQuandle v → Holds d e v → HasFewMoves v
+pub held_text : FewColourings → (d e : Diagram) (v : Verdict) → IsGrid d → IsGrid e → IsByWrittenQuandle v → VerdictHolds d e v → HasFewMoves v
     → HasVerdictText (size d) (size e) v
 held_text few d e (Equal moves) first second written holds short = moves_text moves d e holds short
 held_text few d e (Different q one two) first second named told short = told_text few d e q one two first second named told

@@ -10,7 +10,7 @@ use Rattle.colour_seeds.specs.declared.seeding.SeedFault.TheVariants.{Outside, U
 use Rattle.colour_seeds.specs.declared.progress.Step.{Step}
 use Rattle.colour_seeds.specs.declared.progress.Step.TheVariants.{Seed}
 use Rattle.colour_seeds.specs.declared.progress.Progress.{Progress}
-use Rattle.colour_seeds.specs.Plan.{is_known, is_read, next_step, after, nothing, Leads, seeds_in, IsPlan}
+use Rattle.colour_seeds.specs.Plan.{is_known, is_read, next_step, progress_after, nothing, LeadsBySteps, seeds_in, IsPlan}
 use Rattle.colour_seeds.proofs.Ways.{Next, step_next, step_keeps, leads_more, reaches_itself, reaches_more, no_seed_more, one_seed_more, seed_reaches}
 use Rattle.colour_seeds.proofs.Ways.{unread, mark_here, nothing_known, sound_leads, sound_nothing, known_closed, all_read}
 
@@ -19,7 +19,7 @@ use Rattle.colour_seeds.proofs.Ways.{unread, mark_here, nothing_known, sound_lea
 record EndOf (d : Diagram) (g : Progress) (before : List Step) : Type 0 where
   steps : List Step
   last : Progress
-  leads : Leads d nothing steps last
+  leads : LeadsBySteps d nothing steps last
   stuck : next_step d last ≡ None
   reaches : Reaches d g last
   few : seeds_in steps ≡ seeds_in before
@@ -30,21 +30,21 @@ then_on d g h k first second = record {
   only = λ p closed from. second.only p closed (first.only p closed from);
 }
 
-end_of : (n : ℕ) (d : Diagram) (g : Progress) (steps : List Step) → IsGrid d → Leads d nothing steps g → unread g < n → EndOf d g steps
+end_of : (n : ℕ) (d : Diagram) (g : Progress) (steps : List Step) → IsGrid d → LeadsBySteps d nothing steps g → unread g < n → EndOf d g steps
 end_of zero d g steps grid leads few = absurd (omega (arith, few))
 end_of (suc n) d g steps grid leads few = by (next_step d g) refl (λ h later on fewer. end_of n d h later grid on fewer)
   where
-    by : (o : Option Step) → next_step d g ≡ o → ((h : Progress) (later : List Step) → Leads d nothing later h → unread h < n → EndOf d h later) → EndOf d g steps
+    by : (o : Option Step) → next_step d g ≡ o → ((h : Progress) (later : List Step) → LeadsBySteps d nothing later h → unread h < n → EndOf d h later) → EndOf d g steps
     by None stuck again = record { steps = steps; last = g; leads = leads; stuck = stuck; reaches = reaches_itself d g; few = refl }
     by (Some s) is again =
         let next : Next d g s = step_next d steps g s (next_step d g) grid leads refl is in
-        let rest = again (after d g s) (steps ++ s ∷ []) (leads_more d nothing g steps s leads next.allowed) (omega (arith, next.falls, few)) in
+        let rest = again (progress_after d g s) (steps ++ s ∷ []) (leads_more d nothing g steps s leads next.allowed) (omega (arith, next.falls, few)) in
         record {
           steps = rest.steps;
           last = rest.last;
           leads = rest.leads;
           stuck = rest.stuck;
-          reaches = then_on d g (after d g s) rest.last (reaches_more d g g s next (reaches_itself d g)) rest.reaches;
+          reaches = then_on d g (progress_after d g s) rest.last (reaches_more d g g s next (reaches_itself d g)) rest.reaches;
           few = rest.few ∙ no_seed_more steps (steps ++ s ∷ []) s refl next.no_seed;
         }
 
@@ -54,7 +54,7 @@ end_of (suc n) d g steps grid leads few = by (next_step d g) refl (λ h later on
 pub record WayOf (d : Diagram) (seeds : List ℕ) : Type 0 where
   pub steps : List Step
   pub last : Progress
-  pub leads : Leads d nothing steps last
+  pub leads : LeadsBySteps d nothing steps last
   pub stuck : next_step d last ≡ None
   pub taken : All (λ s. is_known last s ≡ true) seeds
   pub settled : (c : ℕ) → is_known last c ≡ true → IsSettled d seeds c
@@ -97,7 +97,7 @@ seed_more d s seeds grid inside w = by (is_known w.last s) refl
     }
     by false unknown =
         let g = w.last in
-        let h = after d g (Seed s) in
+        let h = progress_after d g (Seed s) in
         let steps = w.steps ++ Seed s ∷ [] in
         let more = end_of (unread h + 1) d h steps grid (leads_more d nothing g w.steps (Seed s) w.leads (inside, unknown)) (omega arith) in
         let one = one_seed_more w.steps steps s refl in

@@ -15,20 +15,21 @@ use Rattle.evidence_core.specs.Unequal.{first_unequal}
 use Rattle.cert_check.specs.declared.ruling.Ruling.{Ruling}
 use Rattle.cert_check.specs.declared.ruling.Ruling.TheVariants as moves
 use Rattle.cert_check.specs.declared.ruling.Why.{Why}
-use Rattle.cert_check.specs.Ruling.{RulesOn as RulesOnVerdict}
+use Rattle.cert_check.specs.Ruling.{RulesOnVerdict}
 use Rattle.cert_check.proofs.Rulings.{some_ruling}
 use Rattle.table_check.specs.declared.class_items.Class.{Class}
 use Rattle.table_check.specs.declared.row_items.OpenPair.{OpenPair}
-use Rattle.table_check.specs.declared.row_items.Row.{Row}
+use Rattle.table_check.specs.declared.row_items.KnotRow.{KnotRow}
 use Rattle.table_check.specs.declared.tables.KnotTable.{KnotTable}
 use Rattle.table_check.specs.declared.cause.ClassCause.{ClassCause}
 use Rattle.table_check.specs.declared.cause.ClassCause.TheVariants.{Outside, Unsettled}
 use Rattle.table_check.specs.declared.cause.TableCause.TheVariants as cause
 use Rattle.table_check.specs.declared.cause.TableRuling.{TableRuling}
 use Rattle.table_check.specs.declared.cause.TableRuling.TheVariants.{Accepted, Rejected}
-use Rattle.table_check.specs.Holds.{numbers_at, ShownAt, ClassHolds, ClassAt, ClassesHold, Differ, AreToldApart, PairHolds, PairsWith, PairsHold, RowHolds, RowAt}
+use Rattle.table_check.specs.TableHolds.{numbers_at, ShownAt, ClassHolds, ClassAt, ClassesHold, Differ, AreToldApart, PairHolds, PairsWith, PairsHold, RowHolds}
+use Rattle.table_check.specs.TableHolds.{RowAt}
 use Rattle.table_check.specs.Cause.{shown_cause, IsClassCause, ClassFails, PairFails, RowFails}
-use Rattle.table_check.specs.Ruling.{RulesOn}
+use Rattle.table_check.specs.Ruling.{RulesOnTable}
 use Rattle.table_check.proofs.Below.{below_more, below_none}
 use Rattle.table_check.proofs.Causes.{shown_of_none, fails_kind, differ_yes, differ_no}
 use Rattle.table_check.proofs.Claims.{of_each, place}
@@ -202,27 +203,27 @@ each_first t first = first_of (PairHolds t first) (PairFails t first) (each_pair
 abbrev SomeRowFails : KnotTable → ℕ → Type 0
 SomeRowFails t at = (why : Why) × RowFails t at why
 
-row_ruled : (t : KnotTable) (at : ℕ) (r : Row) (c : Class) → slice_get t.rows at ≡ Some r → slice_get t.classes r.class ≡ Some c → (ruling : Ruling)
+row_ruled : (t : KnotTable) (at : ℕ) (r : KnotRow) (c : Class) → slice_get t.rows at ≡ Some r → slice_get t.classes r.class ≡ Some c → (ruling : Ruling)
     → RulesOnVerdict (grid_of r.diagram) (grid_of c.diagram) (Equal r.moves) ruling → RowAt t at ⊎ SomeRowFails t at
 row_ruled t at r c here known moves.Accepted joins = inl (λ s there.
-    subst (λ (x : Row). RowHolds t.classes x) (same_Some r s (sym here ∙ there))
+    subst (λ (x : KnotRow). RowHolds t.classes x) (same_Some r s (sym here ∙ there))
     (λ e also. subst (λ (y : Class). Joins (grid_of r.diagram) r.moves (grid_of y.diagram)) (same_Some c e (sym known ∙ also)) joins))
 row_ruled t at r c here known (moves.Rejected why) cause = inr (why, record { row = r; class = c; here = here; known = known; cause = cause })
 
 each_row : (t : KnotTable) → All (λ r. IsGrid (grid_of r.diagram)) t.rows → (at : ℕ) → RowAt t at ⊎ SomeRowFails t at
 each_row t grids at = elim (slice_get_cases t.rows at).1 [
-  | inr past ↦ inl (λ s there. absurd (let no : ◌≡◌ {A = Option Row} None (Some s) = sym past.1 ∙ there in cc))
+  | inr past ↦ inl (λ s there. absurd (let no : ◌≡◌ {A = Option KnotRow} None (Some s) = sym past.1 ∙ there in cc))
   | inl found ↦
       let r = found.0 in
       let here = found.2 in
       elim (slice_get_cases t.classes r.class).1 [
         | inr past ↦ inl (λ s there.
-            subst (λ (x : Row). RowHolds t.classes x) (same_Some r s (sym here ∙ there))
+            subst (λ (x : KnotRow). RowHolds t.classes x) (same_Some r s (sym here ∙ there))
             (λ e also. absurd (let no : ◌≡◌ {A = Option Class} None (Some e) = sym past.1 ∙ also in cc)))
         | inl class ↦
             let c = class.0 in
             let ruled = some_ruling (grid_of r.diagram) (grid_of c.diagram) (Equal r.moves)
-            (of_each (λ (x : Row). IsGrid (grid_of x.diagram)) t.rows at r grids here) in
+            (of_each (λ (x : KnotRow). IsGrid (grid_of x.diagram)) t.rows at r grids here) in
             row_ruled t at r c here class.2 ruled.0 ruled.1
       ]
 ]
@@ -230,7 +231,7 @@ each_row t grids at = elim (slice_get_cases t.rows at).1 [
 -- ---- a table
 
 abbrev SomeTableRuling : KnotTable → Type 0
-SomeTableRuling t = (ruling : TableRuling) × RulesOn t ruling
+SomeTableRuling t = (ruling : TableRuling) × RulesOnTable t ruling
 
 by_rows : (t : KnotTable) → ClassesHold t (length t.classes) → PairsHold t (length t.classes) → All (λ r. IsGrid (grid_of r.diagram)) t.rows → SomeTableRuling t
 by_rows t classes pairs grids = elim (first_of (RowAt t) (SomeRowFails t) (each_row t grids) (length t.rows)) [
@@ -251,7 +252,7 @@ by_pairs t classes grids =
     ]
 
 pub some_table_ruling : (t : KnotTable) → All (λ c. IsGrid (grid_of c.diagram)) t.classes → All (λ r. IsGrid (grid_of r.diagram)) t.rows
-    → (ruling : TableRuling) × RulesOn t ruling
+    → (ruling : TableRuling) × RulesOnTable t ruling
 some_table_ruling t class_grids row_grids = elim (first_of (ClassAt t) (SomeClassFails t) (each_class t class_grids) (length t.classes)) [
   | inl classes ↦ by_pairs t classes row_grids
   | inr first ↦

@@ -9,25 +9,27 @@ ghost use Rattle.evidence_core.specs.declared.evidence.Counted.{Counted};
 ghost use Rattle.evidence_core.specs.declared.evidence.Linked.{Linked};
 ghost use Rattle.evidence_core.specs.declared.evidence.Evidence.{Evidence};
 ghost use Rattle.evidence_core.specs.declared.evidence.Evidence.TheVariants.{Numbers, Linking};
-ghost use Rattle.number_check.specs.Holds.{Holds};
-ghost use Rattle.number_check.specs.Ruling.{RulesOn};
+ghost use Rattle.number_check.specs.EvidenceHolds.{EvidenceHolds};
+ghost use Rattle.number_check.specs.Ruling.{RulesOnNumbers};
 
-use number_check::Ruling;
+use number_check::NumberRuling;
 
 /// Evidence by numbers that holds tells apart: no list of moves joins the two diagrams.
 pub fn what_holds_tells_apart()
     ensures numbers { (d e : Diagram) (b : Block) (one two : Counted) → IsQuandle b.listed.table → IsCocycleOrNone b.cocycle
-        → Holds d e (Numbers b one two) → Equivalent d e → ⊥ }
-    ensures linking { (d e : Diagram) (one two : Linked) → Holds d e (Linking one two) → Equivalent d e → ⊥ }
+        → EvidenceHolds d e (Numbers b one two) → Equivalent d e → ⊥ }
+    ensures linking { (d e : Diagram) (one two : Linked) → EvidenceHolds d e (Linking one two) → Equivalent d e → ⊥ }
 {}
 
 /// The ruling is `Accepted` exactly where the evidence holds.
 pub fn evidence_is_accepted_exactly_where_it_holds()
-    ensures { (d e : Diagram) (evidence : Evidence) (ruling : Ruling) → RulesOn d e evidence ruling → (ruling ≡ Ruling.Accepted) ↔ Holds d e evidence }
+    ensures { (d e : Diagram) (evidence : Evidence) (ruling : NumberRuling) → RulesOnNumbers d e evidence ruling
+        → (ruling ≡ NumberRuling.Accepted) ↔ EvidenceHolds d e evidence }
 {}
 
 /// On all evidence on two grids there is exactly one ruling.
 pub fn evidence_has_exactly_one_ruling()
-    ensures some { (d e : Diagram) (evidence : Evidence) → IsGrid d → IsGrid e → (ruling : Ruling) × RulesOn d e evidence ruling }
-    ensures single { (d e : Diagram) (evidence : Evidence) (one two : Ruling) → RulesOn d e evidence one → RulesOn d e evidence two → one ≡ two }
+    ensures some { (d e : Diagram) (evidence : Evidence) → IsGrid d → IsGrid e → (ruling : NumberRuling) × RulesOnNumbers d e evidence ruling }
+    ensures single { (d e : Diagram) (evidence : Evidence) (one two : NumberRuling) → RulesOnNumbers d e evidence one → RulesOnNumbers d e evidence two
+        → one ≡ two }
 {}

@@ -4,7 +4,7 @@ ghost use Rattle.std.specs.List.{AllByRecursion};
 ghost use Rattle.verdict_core.specs.declared.problem.ProblemText.{ProblemText};
 ghost use Rattle.verdict_core.specs.declared.verdict.Verdict.{Verdict};
 ghost use Rattle.verdict_core.specs.Diagrams.{grid_of};
-ghost use Rattle.verdict_core.specs.Evidence.{Holds, IsTidyVerdict};
+ghost use Rattle.verdict_core.specs.Evidence.{VerdictHolds, IsTidyVerdict};
 ghost use Rattle.knot_text.specs.Printed.{HasQuandleText, version_text};
 ghost use Rattle.verdict_text.specs.Problems.{problem_of};
 ghost use Rattle.verdict_laws.specs.VerdictDecision.{IsDecisionByVerdict, IsByWrittenQuandle};
@@ -19,7 +19,7 @@ pub fn a_verdict_that_holds_is_a_decision()
     ensures quandles { (bytes : List ℕ) (problem : ProblemText) → problem_of bytes ≡ Ok problem → AllByRecursion HasQuandleText problem.quandles }
     ensures decision { (bytes : List ℕ) (problem : ProblemText) (verdict : Verdict)
         → problem_of bytes ≡ Ok problem
-        → Holds (grid_of problem.first) (grid_of problem.second) verdict
+        → VerdictHolds (grid_of problem.first) (grid_of problem.second) verdict
         → IsByWrittenQuandle verdict
         → IsTidyVerdict verdict
         → IsDecisionByVerdict bytes (version_text Version.Tidy verdict) }

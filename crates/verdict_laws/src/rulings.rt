@@ -5,9 +5,9 @@ ghost use Rattle.grid_core.specs.Diagram.{Diagram, IsGrid};
 ghost use Rattle.grid_moves.specs.Joining.{Equivalent};
 ghost use Rattle.quandle_core.specs.Quandle.{Table, IsQuandle};
 ghost use Rattle.quandle_core.specs.Names.{NamedQuandle};
-ghost use Rattle.verdict_core.specs.Evidence.{Claims, Holds, TellsApart};
+ghost use Rattle.verdict_core.specs.Evidence.{Claims, VerdictHolds, TellsApart};
 ghost use Rattle.cert_check.specs.Cause.{first_difference, cause_of_lists};
-ghost use Rattle.cert_check.specs.Ruling.{RulesOn};
+ghost use Rattle.cert_check.specs.Ruling.{RulesOnVerdict};
 
 use cert_check::Ruling;
 use grid_moves::Move;
@@ -16,42 +16,42 @@ use verdict_core::Verdict;
 /// Evidence that holds proves what the verdict claims: moves that join the diagrams, that they are equivalent; lists by which
 /// a quandle tells them apart, that they are not.
 pub fn what_holds_is_true()
-    ensures equal { (d e : Diagram) (moves : List Move) → Holds d e (Verdict.Equal moves) → Claims d e (Verdict.Equal moves) }
+    ensures equal { (d e : Diagram) (moves : List Move) → VerdictHolds d e (Verdict.Equal moves) → Claims d e (Verdict.Equal moves) }
     ensures different { (d e : Diagram) (listed : NamedQuandle) (one two : List (ArrayVec ℕ))
         → IsQuandle listed.table
-        → Holds d e (Verdict.Different listed one two)
+        → VerdictHolds d e (Verdict.Different listed one two)
         → Claims d e (Verdict.Different listed one two) }
 {}
 
 /// On every verdict on two grids there is exactly one ruling.
 pub fn a_verdict_has_exactly_one_ruling()
-    ensures some { (d e : Diagram) (verdict : Verdict) → IsGrid d → (ruling : Ruling) × RulesOn d e verdict ruling }
+    ensures some { (d e : Diagram) (verdict : Verdict) → IsGrid d → (ruling : Ruling) × RulesOnVerdict d e verdict ruling }
     ensures single { (d e : Diagram) (verdict : Verdict) (ruling other : Ruling)
-        → RulesOn d e verdict ruling
-        → RulesOn d e verdict other
+        → RulesOnVerdict d e verdict ruling
+        → RulesOnVerdict d e verdict other
         → ruling ≡ other }
 {}
 
 /// The ruling on a verdict is `Accepted` exactly where its evidence holds.
 pub fn a_verdict_is_accepted_exactly_where_its_evidence_holds()
     ensures { (d e : Diagram) (verdict : Verdict) (ruling : Ruling)
-        → RulesOn d e verdict ruling
-        → (ruling ≡ Ruling.Accepted) ↔ Holds d e verdict }
+        → RulesOnVerdict d e verdict ruling
+        → (ruling ≡ Ruling.Accepted) ↔ VerdictHolds d e verdict }
 {}
 
 /// An accepted `equal` means that the diagrams are equivalent, an accepted `different` by a quandle that they are not.
 /// So no two diagrams have both.
 pub fn an_accepted_verdict_is_true()
-    ensures equal { (d e : Diagram) (moves : List Move) → RulesOn d e (Verdict.Equal moves) Ruling.Accepted → Equivalent d e }
+    ensures equal { (d e : Diagram) (moves : List Move) → RulesOnVerdict d e (Verdict.Equal moves) Ruling.Accepted → Equivalent d e }
     ensures different { (d e : Diagram) (listed : NamedQuandle) (one two : List (ArrayVec ℕ))
         → IsQuandle listed.table
-        → RulesOn d e (Verdict.Different listed one two) Ruling.Accepted
+        → RulesOnVerdict d e (Verdict.Different listed one two) Ruling.Accepted
         → Equivalent d e
         → ⊥ }
     ensures not_both { (d e : Diagram) (moves : List Move) (listed : NamedQuandle) (one two : List (ArrayVec ℕ))
         → IsQuandle listed.table
-        → RulesOn d e (Verdict.Equal moves) Ruling.Accepted
-        → RulesOn d e (Verdict.Different listed one two) Ruling.Accepted
+        → RulesOnVerdict d e (Verdict.Equal moves) Ruling.Accepted
+        → RulesOnVerdict d e (Verdict.Different listed one two) Ruling.Accepted
         → ⊥ }
 {}
 

@@ -4,7 +4,7 @@ ghost use Rattle.grid_core.specs.Diagram.{Diagram};
 ghost use Rattle.quandle_core.specs.declared.quandle.TheConstants.{MAX_ORDER};
 ghost use Rattle.quandle_core.specs.Quandle.{Table, IsQuandle};
 ghost use Rattle.quandle_core.specs.Names.{NamedQuandle, NamesWithin, Names, quandle_named};
-ghost use Rattle.verdict_core.specs.Evidence.{Holds, HasEvidence};
+ghost use Rattle.verdict_core.specs.Evidence.{VerdictHolds, HasEvidence};
 
 use verdict_core::{QuandleName, Verdict};
 
@@ -22,5 +22,5 @@ pub fn a_name_but_table_has_one_quandle()
 
 /// Evidence that holds is there.
 pub fn what_holds_has_evidence()
-    ensures { (d e : Diagram) (verdict : Verdict) → Holds d e verdict → HasEvidence verdict }
+    ensures { (d e : Diagram) (verdict : Verdict) → VerdictHolds d e verdict → HasEvidence verdict }
 {}

@@ -2,13 +2,13 @@
 use Rattle.std.specs.Prelude.{ℕ, ◌-◌, List, ◌++◌, Result, Ok, Err, is_none, if◌then◌else◌}
 use Rattle.quandle_core.specs.Quandle.{Table}
 use Rattle.cocycle_core.specs.Cocycle.{Cochain}
-use Rattle.cocycle_core.specs.Fault.{first_fault}
+use Rattle.cocycle_core.specs.Fault.{first_cocycle_fault}
 use Rattle.text_lines.specs.Lines.{Text}
 use Rattle.text_items.specs.declared.fault.TextFault.{TextFault}
 use Rattle.text_items.specs.declared.fault.TextFault.TheVariants.{Malformed}
 use Rattle.text_items.specs.Reading.{◌>>=◌, next_line}
 use Rattle.text_items.specs.Modulus.{modulus_at}
-use Rattle.text_items.specs.Numbers.{numbers_below}
+use Rattle.text_items.specs.NumberLines.{numbers_below}
 use Rattle.text_items.specs.Quandles.{table_rows}
 
 abbrev pub cochain : Table → ℕ → List ℕ → Cochain
@@ -20,7 +20,7 @@ cochain_item quandle modulus text = do
   front ← table_rows quandle.order modulus (quandle.order - 1) text
   line ← next_line front.1
   row ← numbers_below quandle.order modulus line.0
-  if is_none (first_fault (cochain quandle modulus (front.0 ++ row)))
+  if is_none (first_cocycle_fault (cochain quandle modulus (front.0 ++ row)))
       then Ok (cochain quandle modulus (front.0 ++ row), line.1)
       else Err (Malformed line.0.number)
 

@@ -4,7 +4,7 @@ use Rattle.text_lines.specs.Lines.{Text, text_of}
 use Rattle.text_items.specs.declared.fault.TextFault.{TextFault}
 use Rattle.verdict_core.specs.declared.verdict.Verdict.{Verdict}
 use Rattle.verdict_core.specs.declared.problem.ProblemText.{ProblemText}
-use Rattle.verdict_core.specs.Diagrams.{columns}
+use Rattle.verdict_core.specs.Diagrams.{column_count}
 use Rattle.text_items.specs.Reading.{◌>>=◌, text_end}
 use Rattle.verdict_text.specs.Diagrams.{diagram_item}
 use Rattle.text_items.specs.Quandles.{quandle_list}
@@ -29,7 +29,7 @@ problem_in text = do
 unfoldable pub check_in : Text → Result (ProblemText × Verdict) TextFault
 check_in text = do
   problem ← problem_item text
-  verdict ← verdict_item (columns problem.0.first) (columns problem.0.second) problem.1
+  verdict ← verdict_item (column_count problem.0.first) (column_count problem.0.second) problem.1
   end ← text_end verdict.1
   Ok (problem.0, verdict.0)
 

@@ -1,7 +1,7 @@
 -- Worked examples, by computing: closures of braids of two strands, and the trefoils.
 use Rattle.std.proofs.Common.{◌≡◌, ◌∷◌, [], refl, pos, negsuc}
 use Rattle.grid_core.specs.Diagram.{Diagram}
-use Rattle.linking_core.specs.Component.{components, numbers_below}
+use Rattle.linking_core.specs.Component.{components, component_numbers_below}
 use Rattle.grid_core.specs.Crossing.{sign}
 use Rattle.grid_core.specs.Trefoils.{right_trefoil, left_trefoil}
 use Rattle.linking_core.specs.Linking.{signs, linking}
@@ -21,7 +21,7 @@ two_unknots = record { x = 0 ∷ 1 ∷ 2 ∷ 3 ∷ []; o = 3 ∷ 2 ∷ 1 ∷ 0 �
 two_components : components negative_link ≡ 0 ∷ 1 ∷ []
 two_components = refl
 
-by_column : numbers_below negative_link 6 ≡ 0 ∷ 1 ∷ 0 ∷ 1 ∷ 1 ∷ 0 ∷ []
+by_column : component_numbers_below negative_link 6 ≡ 0 ∷ 1 ∷ 0 ∷ 1 ∷ 1 ∷ 0 ∷ []
 by_column = refl
 
 negative : linking negative_link ≡ negsuc 0 ∷ negsuc 0 ∷ []

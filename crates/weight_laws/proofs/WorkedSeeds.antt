@@ -16,8 +16,8 @@ use Rattle.colour_seeds.specs.declared.progress.Step.{Step}
 use Rattle.colour_seeds.specs.declared.progress.Step.TheVariants.{Seed, Rightward, Leftward, Test}
 use Rattle.colour_seeds.specs.declared.progress.Progress.{Progress}
 use Rattle.colour_seeds.specs.Settled.{HasOvers, IsSettled}
-use Rattle.colour_seeds.specs.Plan.{Leads, IsPlan, after, is_known, is_read, next_step, nothing, seed_columns, seeds_in}
-use Rattle.colour_seeds.specs.Fits.{few_ways}
+use Rattle.colour_seeds.specs.Plan.{LeadsBySteps, IsPlan, progress_after, is_known, is_read, next_step, nothing, seed_columns, seeds_in}
+use Rattle.colour_seeds.specs.FewWays.{few_ways}
 use Rattle.colour_seeds.specs.Leaves.{leaves}
 
 -- a plan by tests that compute
@@ -26,7 +26,7 @@ passes p n all k lt a is =
     ap p (is ∙ sym (get_or-range_with_len 0 n k 0 lt ∙ omega arith))
     ∙ AllPass-from_list_all p (range_with_len 0 n) all k 0 (omega (arith, lt, length-range_with_len 0 n))
 
-plan_by : (d : Diagram) (steps : List Step) (last : Progress) → Leads d nothing steps last → list_all (is_known last) (range_with_len 0 (size d)) ≡ true
+plan_by : (d : Diagram) (steps : List Step) (last : Progress) → LeadsBySteps d nothing steps last → list_all (is_known last) (range_with_len 0 (size d)) ≡ true
     → list_all (is_read last) (range_with_len 0 (size d)) ≡ true → IsPlan d steps
 plan_by d steps last leads known read = record {
   last = last;
@@ -38,7 +38,7 @@ plan_by d steps last leads known read = record {
 -- behind the steps
 abbrev behind_all : Diagram → Progress → List Step → Progress
 behind_all d g [] = g
-behind_all d g (s ∷ steps) = behind_all d (after d g s) steps
+behind_all d g (s ∷ steps) = behind_all d (progress_after d g s) steps
 
 -- one seed is enough for the unknot
 abbrev unknot_plan : List Step

@@ -9,12 +9,12 @@ ghost use Rattle.colour_rows.specs.Walk.{walk_to};
 ghost use Rattle.colour_rows.specs.Colouring.{IsColouring};
 ghost use Rattle.colour_laws.specs.Carried.{carried};
 ghost use Rattle.cocycle_core.specs.ShadowCocycle.{ShadowCochain, IsShadowCocycle};
-ghost use Rattle.cocycle_core.specs.ShadowFault.{first_fault};
-ghost use Rattle.cocycle_core.specs.ShadowCases.{IsFirstFault};
+ghost use Rattle.cocycle_core.specs.ShadowFault.{first_shadow_fault};
+ghost use Rattle.cocycle_core.specs.ShadowCases.{IsFirstShadowFault};
 ghost use Rattle.cocycle_core.specs.declared.shadow_fault.ShadowFault.{ShadowFault};
 ghost use Rattle.colour_weights.specs.Region.{region, height_beside, height_across};
 ghost use Rattle.colour_weights.specs.ShadowWeight.{shadow_weight};
-ghost use Rattle.colour_weights.specs.ShadowWalkSum.{weight_by_rows};
+ghost use Rattle.colour_weights.specs.ShadowWalkSum.{shadow_weight_by_rows};
 ghost use Rattle.grid_core.specs.Trefoils.{right_trefoil, left_trefoil};
 ghost use Rattle.colour_weights.specs.ShadowWeights.{shadow_weights};
 
@@ -23,18 +23,18 @@ use grid_moves::Move;
 
 /// A table of numbers over a quandle has no fault exactly where it is a shadow cocycle.
 pub fn no_fault_is_a_shadow_cocycle()
-    ensures { (t : ShadowCochain) → IsQuandle t.quandle → (first_fault t ≡ None) ↔ IsShadowCocycle t }
+    ensures { (t : ShadowCochain) → IsQuandle t.quandle → (first_shadow_fault t ≡ None) ↔ IsShadowCocycle t }
 {}
 
 /// The first fault is exactly the one whose case fails, where no earlier law fails and no lexicographically smaller case of its own law.
 pub fn the_first_fault_comes_first()
-    ensures { (t : ShadowCochain) (fault : ShadowFault) → (first_fault t ≡ Some fault) ↔ IsFirstFault t fault }
+    ensures { (t : ShadowCochain) (fault : ShadowFault) → (first_shadow_fault t ≡ Some fault) ↔ IsFirstShadowFault t fault }
 {}
 
 /// The sum over the crossings is the sum over the rows.
 pub fn the_weight_is_that_of_the_rows()
     ensures { (t : ShadowCochain) (d : Diagram) (colours : List ℕ) (outer : ℕ) → IsShadowCocycle t → IsGrid d → IsColouring t.quandle d colours
-        → outer < t.quandle.order → shadow_weight t d colours outer ≡ weight_by_rows t d colours outer }
+        → outer < t.quandle.order → shadow_weight t d colours outer ≡ shadow_weight_by_rows t d colours outer }
 {}
 
 /// A row parts the regions above and below it between its ends alone: passing it from its right-hand side to its left-hand side takes w to `w ▷ x`,

@@ -7,7 +7,7 @@ ghost use Rattle.colour_rows.specs.Colouring.{IsColouring};
 ghost use Rattle.colour_laws.specs.Carried.{carried};
 ghost use Rattle.cocycle_core.specs.ShadowCocycle.{IsShadowCocycle};
 ghost use Rattle.colour_weights.specs.ShadowWeight.{shadow_weight};
-ghost use Rattle.colour_weights.specs.Lifted.{lifted};
+ghost use Rattle.colour_weights.specs.Lifted.{lifted_cochain};
 ghost use Rattle.cocycle_core.specs.Cocycle.{Cochain, IsCocycle};
 ghost use Rattle.colour_weights.specs.Weight.{weight};
 ghost use Rattle.colour_weights.specs.WalkSum.{weight_by_rows};
@@ -84,7 +84,7 @@ pub fn equivalent_diagrams_have_equal_weights()
 
 /// A 2-cocycle is a shadow cocycle that doesn't look at the region, and its shadow weights are its weights, whatever the colour of the outer region.
 pub fn a_2_cocycle_is_a_shadow_cocycle()
-    ensures cocycle { (w : Cochain) → IsCocycle w → IsShadowCocycle (lifted w) }
+    ensures cocycle { (w : Cochain) → IsCocycle w → IsShadowCocycle (lifted_cochain w) }
     ensures weight { (w : Cochain) (d : Diagram) (colours : List ℕ) (outer : ℕ) → IsCocycle w → IsGrid d → IsColouring w.quandle d colours
-        → outer < w.quandle.order → shadow_weight (lifted w) d colours outer ≡ weight w d colours }
+        → outer < w.quandle.order → shadow_weight (lifted_cochain w) d colours outer ≡ weight w d colours }
 {}

@@ -13,8 +13,8 @@ use Rattle.plain_jobs.specs.Comparison.{compared_line}
 use Rattle.reply_text.specs.Reply.{done}
 
 -- the linking numbers of all ordered pairs of different components, in ascending order
-abbrev pub numbers_line : Marks → List ℕ
-numbers_line d = line_text (codes "numbers" ∷ map letter_token (linking d))
+abbrev pub linking_numbers_line : Marks → List ℕ
+linking_numbers_line d = line_text (codes "numbers" ∷ map letter_token (linking d))
 
 -- the two lists are alike: equal, place by place
 abbrev pub numbers_are_alike : List ℤ → List ℤ → Bool
@@ -22,7 +22,7 @@ numbers_are_alike = pointwise int_eq
 
 -- the numbers of both, and whether they are alike
 abbrev pub linking_text : Marks → Marks → List ℕ
-linking_text d e = numbers_line d ++ (numbers_line e ++ compared_line (numbers_are_alike (linking d) (linking e)))
+linking_text d e = linking_numbers_line d ++ (linking_numbers_line e ++ compared_line (numbers_are_alike (linking d) (linking e)))
 
 abbrev pub AnswersLinking : Diagram × Diagram → PlainReply → Type 0
 AnswersLinking input reply = reply ≡ done (linking_text (grid_of input.0) (grid_of input.1))

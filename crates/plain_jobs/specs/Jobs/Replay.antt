@@ -16,7 +16,7 @@ use Rattle.quandle_core.specs.Names.{NamedQuandle}
 use Rattle.knot_text.specs.Printed.{grid_text}
 use Rattle.verdict_core.specs.Diagrams.{grid_of}
 use Rattle.reply_text.specs.declared.reply.PlainReply.{PlainReply}
-use Rattle.reply_text.specs.Lines.{step_tokens}
+use Rattle.reply_text.specs.Lines.{illegal_step_tokens}
 use Rattle.reply_text.specs.Reply.{done, rejected}
 
 -- the moves, one after another, lead from d to e and carry these colours of d to those of e
@@ -29,7 +29,7 @@ abbrev pub coloured_text : Diagram → List ℕ → List ℕ
 coloured_text d colours = grid_text d ++ line_text (codes "colours" ∷ map decimal colours)
 
 -- the last diagram, where all moves are legal
-pub record Replays (d : Diagram) (moves : List Move) (reply : PlainReply) : Type 0 where
+pub record ReplaysMoves (d : Diagram) (moves : List Move) (reply : PlainReply) : Type 0 where
   pub last : Diagram
   pub joins : Joins d moves last
   pub is : reply ≡ done (grid_text last)
@@ -46,7 +46,7 @@ pub record Stops (d : Diagram) (moves : List Move) (reply : PlainReply) : Type 0
   pub place : ℕ
   pub fault : MoveFault
   pub stops : StopsAt d moves place fault
-  pub is : reply ≡ rejected (step_tokens place fault)
+  pub is : reply ≡ rejected (illegal_step_tokens place fault)
 
 -- colours that are no colouring are rejected before any move is made
 pub record Miscoloured (d : Diagram) (q : NamedQuandle) (colours : List ℕ) (reply : PlainReply) : Type 0 where
@@ -58,7 +58,7 @@ pub record Coloured (d : Diagram) (moves : List Move) (q : NamedQuandle) (colour
   pub answer : ReplaysColoured d moves q colours reply ⊎ Stops d moves reply
 
 abbrev pub AnswersMoves : Diagram → List Move → Option (NamedQuandle × ArrayVec ℕ) → PlainReply → Type 0
-AnswersMoves d moves None reply = Replays d moves reply ⊎ Stops d moves reply
+AnswersMoves d moves None reply = ReplaysMoves d moves reply ⊎ Stops d moves reply
 AnswersMoves d moves (Some (q, colours)) reply = Miscoloured d q colours.items reply ⊎ Coloured d moves q colours.items reply
 
 abbrev pub AnswersReplay : ReplayText → PlainReply → Type 0

@@ -40,13 +40,13 @@ abbrev pub weighed_text : Weighing → Marks → Marks → List ℕ
 weighed_text w d e = weights_line w d ++ (weights_line w e ++ compared_line (weights_are_alike (weights_by w d) (weights_by w e)))
 
 -- which of the two diagrams has too many choices of a colour for each bottom, and its number of bottoms
-abbrev pub wide_line : ℕ → Marks → List ℕ
-wide_line which d = line_text (codes "wide" ∷ decimal which ∷ decimal (bottoms d) ∷ [])
+abbrev pub wide_diagram_line : ℕ → Marks → List ℕ
+wide_diagram_line which d = line_text (codes "wide" ∷ decimal which ∷ decimal (bottoms d) ∷ [])
 
 -- the first diagram that the quandle doesn't fit decides
 abbrev pub weights_text : Weighing → Marks → Marks → List ℕ
 weights_text w d e =
-    if fits (table_by w) d then (if fits (table_by w) e then weighed_text w d e else wide_line 2 e) else wide_line 1 d
+    if fits (table_by w) d then (if fits (table_by w) e then weighed_text w d e else wide_diagram_line 2 e) else wide_diagram_line 1 d
 
 abbrev pub AnswersWeights : WeighedText → PlainReply → Type 0
 AnswersWeights input reply = reply ≡ done (weights_text input.cocycle (grid_of input.first) (grid_of input.second))

@@ -9,7 +9,7 @@ ghost use Rattle.colour_list.specs.declared.limits.ListFault.TheVariants as faul
 ghost use Rattle.colour_list.specs.Fits.{fits};
 ghost use Rattle.colour_list.specs.Listing.{colourings, lists_of};
 ghost use Rattle.braid_core.specs.FixedPoints.{fixed_points};
-ghost use Rattle.grid_braid.specs.Word.{word};
+ghost use Rattle.grid_braid.specs.Word.{word_of_diagram};
 ghost use Rattle.grid_braid.specs.Feet.{at_feet};
 ghost use Rattle.text_lines.specs.Spelled.{lines_text};
 ghost use Rattle.knot_text.specs.Printed.{braid_text};
@@ -62,7 +62,7 @@ fn word_text(alloc: Global, grid: &Grid, quandles: &[Listed]) -> Result<Vec<u8>,
 
 /// Appends the braid word of a grid.
 fn push_word(alloc: Global, out: &mut Vec<u8>, grid: &Grid) -> Result<(), AllocError>
-    ensures { OnOk result (out.new.items ≡ out.old.items ++ braid_text (word grid.now)) }
+    ensures { OnOk result (out.new.items ≡ out.old.items ++ braid_text (word_of_diagram grid.now)) }
 {
     match word_of(alloc, grid) {
         Ok(word) => push_braid(out, word.strands(), word.letters()),
@@ -105,7 +105,7 @@ fn push_fixed_points(
 /// All tuples that the action of a grid's word takes to themselves, in lexicographic order: the feet of its colourings, put in order.
 /// The word may have too many strands for all tuples to be tried.
 fn fixed_points(alloc: Global, grid: &Grid, quandle: &Quandle) -> Result<Vec<Colouring>, ListFault>
-    ensures complete { IfOk result (λ v. lists_of v.items ≡ fixed_points quandle.now (word grid.now)) }
+    ensures complete { IfOk result (λ v. lists_of v.items ≡ fixed_points quandle.now (word_of_diagram grid.now)) }
     ensures wide { fits quandle.now grid.now ≡ false → result ≡ Err (fault.TooWide (bottoms grid.now)) }
     ensures fault { IfErr result (λ e. e ≡ fault.OutOfMemory ⊎ (fits quandle.now grid.now ≡ false) × (e ≡ fault.TooWide (bottoms grid.now))) }
 {
@@ -121,7 +121,7 @@ fn feet_in_order(
     all: &[Colouring],
 ) -> Result<Vec<Colouring>, AllocError>
     requires { lists_of all.now ≡ colourings quandle.now grid.now }
-    ensures { IfOk result (λ v. lists_of v.items ≡ fixed_points quandle.now (word grid.now)) }
+    ensures { IfOk result (λ v. lists_of v.items ≡ fixed_points quandle.now (word_of_diagram grid.now)) }
 {
     each_colouring_is_listed_once();
     the_complete_list_ascends();

@@ -7,7 +7,7 @@ ghost use Rattle.plain_jobs.specs.EquallyMany.{HaveEquallyMany};
 ghost use Rattle.reply_text.specs.Lines.{rejected_line};
 ghost use Rattle.reply_text.specs.Reply.{AnswersRead};
 ghost use Rattle.plain_jobs.specs.Jobs.Braidcheck.{braid_fault_tokens, braid_step_tokens, ruled_reply, AnswersBraidcheck};
-ghost use Rattle.plain_jobs.specs.Truth.{IsBraidCertificate};
+ghost use Rattle.plain_jobs.specs.TextTruth.{IsBraidCertificate};
 
 use crate::laws::accepted_braids_have_equally_many_colourings;
 use braid_moves::{BraidMoveFault, BraidRuling, check_braids};

@@ -6,7 +6,7 @@ ghost use Rattle.knot_text.specs.Pairs.{pair_of};
 ghost use Rattle.plain_jobs.specs.Comparison.{EndsDifferent};
 ghost use Rattle.reply_text.specs.Reply.{AnswersRead};
 ghost use Rattle.plain_jobs.specs.Jobs.Linking.{linking_text, AnswersLinking};
-ghost use Rattle.plain_jobs.specs.Truth.{IsTrueLinking};
+ghost use Rattle.plain_jobs.specs.TextTruth.{IsTrueLinking};
 
 use crate::comparison::push_comparison;
 use grid_core::Grid;

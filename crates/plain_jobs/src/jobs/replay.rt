@@ -3,9 +3,9 @@ ghost use Rattle.std.specs.Prelude.{◌≡◌, ◌⊎◌, IfOk, IfErr};
 ghost use Rattle.grid_moves.specs.Joining.{StopsAt};
 ghost use Rattle.colour_rows.specs.Colouring.{IsColouring};
 ghost use Rattle.knot_text.specs.Shapes.{replay_of};
-ghost use Rattle.reply_text.specs.Lines.{step_tokens};
+ghost use Rattle.reply_text.specs.Lines.{illegal_step_tokens};
 ghost use Rattle.reply_text.specs.Reply.{rejected, AnswersRead};
-ghost use Rattle.plain_jobs.specs.Jobs.Replay.{Carries, coloured_text, Replays, Stops, Miscoloured, Coloured, AnswersReplay};
+ghost use Rattle.plain_jobs.specs.Jobs.Replay.{Carries, coloured_text, ReplaysMoves, Stops, Miscoloured, Coloured, AnswersReplay};
 
 use colour_laws::carry;
 use colour_rows::{Colouring, is_colouring};
@@ -49,7 +49,7 @@ fn replay(alloc: Global, input: ReplayText) -> Result<PlainReply, AllocError>
 
 /// The last grid, or the first illegal move.
 fn replay_plain(alloc: Global, grid: &Grid, moves: &[Move]) -> Result<PlainReply, AllocError>
-    ensures { IfOk result (λ reply. Replays grid.now moves.now reply ⊎ Stops grid.now moves.now reply) }
+    ensures { IfOk result (λ reply. ReplaysMoves grid.now moves.now reply ⊎ Stops grid.now moves.now reply) }
 {
     match apply_all(grid, moves) {
         Ok(last) => match print_grid(alloc, &last) {
@@ -84,7 +84,7 @@ fn replay_coloured(
 
 /// The first illegal move.
 fn reject_move(alloc: Global, place: usize, fault: MoveFault) -> Result<PlainReply, AllocError>
-    ensures { IfOk result (λ reply. reply ≡ rejected (step_tokens place fault)) }
+    ensures { IfOk result (λ reply. reply ≡ rejected (illegal_step_tokens place fault)) }
 {
     Ok(PlainReply::new(Status::Rejected, step_line(alloc, place, fault)?))
 }

@@ -9,8 +9,8 @@ ghost use Rattle.verdict_core.specs.Diagrams.{grid_of};
 ghost use Rattle.number_text.specs.Weighed.{weighed_of};
 ghost use Rattle.plain_jobs.specs.Comparison.{EndsDifferent};
 ghost use Rattle.reply_text.specs.Reply.{AnswersRead};
-ghost use Rattle.plain_jobs.specs.Jobs.Weights.{weights_by, table_by, weighed_text, wide_line, weights_text, AnswersWeights};
-ghost use Rattle.plain_jobs.specs.Truth.{IsTrueWeighing};
+ghost use Rattle.plain_jobs.specs.Jobs.Weights.{weights_by, table_by, weighed_text, wide_diagram_line, weights_text, AnswersWeights};
+ghost use Rattle.plain_jobs.specs.TextTruth.{IsTrueWeighing};
 
 use crate::comparison::push_comparison;
 use certificates::push_labelled_line;
@@ -71,7 +71,7 @@ fn weights_text(
 
 /// The line of the first or the second grid, which has too many choices of a colour for each bottom.
 fn wide_line(alloc: Global, which: u8, grid: &Grid) -> Result<Vec<u8>, AllocError>
-    ensures text { IfOk result (λ v. v.items ≡ wide_line which grid.now) }
+    ensures text { IfOk result (λ v. v.items ≡ wide_diagram_line which grid.now) }
     ensures apart { IfOk result (λ v. EndsDifferent v.items → ⊥) }
 {
     let mut out = Vec::new(alloc);

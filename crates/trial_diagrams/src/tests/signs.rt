@@ -1,5 +1,5 @@
 //! Signs of the crossings of rows.
-use code_rows::{MAX_CROSSINGS, Row, code_of_rows};
+use code_rows::{CodeRow, MAX_CROSSINGS, code_of_rows};
 use std::alloc::Global;
 use std::process::Abort;
 use std::test::Fail;
@@ -8,10 +8,10 @@ use std::test::Fail;
 type Edges = (u32, u32, u32, u32);
 
 /// The rows of these edges.
-fn rows_of(alloc: Global, edges: &[Edges]) -> Result<Vec<Row>, Fail> {
+fn rows_of(alloc: Global, edges: &[Edges]) -> Result<Vec<CodeRow>, Fail> {
     let mut list = Vec::new(alloc);
     for (first, second, third, fourth) in edges {
-        list.push(Row {
+        list.push(CodeRow {
             first: *first,
             second: *second,
             third: *third,

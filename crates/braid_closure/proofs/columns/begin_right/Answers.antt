@@ -1,6 +1,6 @@
 use Rattle.std.proofs.Common.{◌∙◌, None, List, subst}
 use Rattle.braid_closure.specs.declared.columns.Column.{Column}
-use Rattle.braid_closure.specs.Columns.{StandsAt}
+use Rattle.braid_closure.specs.Columns.{ColumnStandsAt}
 use Rattle.braid_closure.proofs.Places.{insert_right, begin_right_open}
 use Rattle.braid_closure.proofs.columns.begin_right.Goals as goal
 
@@ -11,11 +11,13 @@ pub returns-clause-columns : goal.returns-clause-columns
 returns-clause-columns c =
     c.insert.ensures.items
     ∙ insert_right c.args.position c.place_of-place.result c.args.row c.args.columns.now.items none
-    (subst (λ (zs : List Column). StandsAt c.args.position c.place_of-place.result zs none) c.as_slice.ensures.value (c.place_of-place.ensures.stands none))
+    (subst (λ (zs : List Column). ColumnStandsAt c.args.position c.place_of-place.result zs none) c.as_slice.ensures.value
+    (c.place_of-place.ensures.stands none))
 
 pub returns-clause-count : goal.returns-clause-count
 returns-clause-count c =
     let at =
-    subst (λ (zs : List Column). StandsAt c.args.position c.place_of-place.result zs none) c.as_slice.ensures.value (c.place_of-place.ensures.stands none) in
+    subst (λ (zs : List Column). ColumnStandsAt c.args.position c.place_of-place.result zs none) c.as_slice.ensures.value
+    (c.place_of-place.ensures.stands none) in
     begin_right_open c.args.position c.place_of-place.result c.args.row c.args.columns.now.items c.insert.new.self.items none
     (c.insert.ensures.items ∙ insert_right c.args.position c.place_of-place.result c.args.row c.args.columns.now.items none at) at

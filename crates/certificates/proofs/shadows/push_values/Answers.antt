@@ -3,17 +3,17 @@ use Rattle.std.specs.List.{range_with_len}
 use Rattle.std.specs.Prelude.{slice_index}
 use Rattle.std.proofs.lemmas.Nat.{div-add-mod'}
 use Rattle.quandle_core.specs.Quandle.{over}
-use Rattle.cocycle_core.specs.ShadowCocycle.{ShadowCochain, value}
+use Rattle.cocycle_core.specs.ShadowCocycle.{ShadowCochain, shadow_value}
 use Rattle.knot_text.proofs.LineTexts.{rows_more, row_line}
 use Rattle.certificates.specs.Shadows.{shadow_rows}
 use Rattle.certificates.proofs.shadows.push_values.Goals as goal
 
 -- the values of the two colours of a row
-row_is : (t : ShadowCochain) (k q : ℕ) (row : List ℕ) → q ≡ t.quandle.order → row ≡ map (value t (k / q) (k % q)) (range_with_len 0 t.quandle.order)
+row_is : (t : ShadowCochain) (k q : ℕ) (row : List ℕ) → q ≡ t.quandle.order → row ≡ map (shadow_value t (k / q) (k % q)) (range_with_len 0 t.quandle.order)
     → row ≡ map (over (shadow_rows t) k) (range_with_len 0 t.quandle.order)
 row_is t k q row same is =
     is
-    ∙ (ap (λ (n : ℕ). map (value t (k / n) (k % n)) (range_with_len 0 t.quandle.order)) same
+    ∙ (ap (λ (n : ℕ). map (shadow_value t (k / n) (k % n)) (range_with_len 0 t.quandle.order)) same
     ∙ ap (λ (j : ℕ). map (λ y. slice_index t.entries (j * t.quandle.order + y)) (range_with_len 0 t.quandle.order)) (div-add-mod' k t.quandle.order))
 
 pub loop-k-preserved : goal.loop-k-preserved

@@ -1,7 +1,7 @@
 use Rattle.std.proofs.Common.{◌≡◌, ◌++◌, ◌∷◌, [], ℕ, List, Some, None, Ok, Err, ap, sym, ◌∙◌}
 use Rattle.std.specs.Prelude.{filter}
 use Rattle.text_lines.specs.Lines.{NumberedLine}
-use Rattle.text_lines.specs.Numbers.{number_of}
+use Rattle.text_lines.specs.NumberTokens.{number_of}
 use Rattle.text_items.specs.declared.fault.TextFault.TheVariants.{Malformed}
 use Rattle.text_items.proofs.Values.{value_more, value_fails, values_done}
 use Rattle.code_text.specs.RowLines.{says_something, row_numbers}

@@ -1,6 +1,6 @@
 use Rattle.std.proofs.Common.{◌≡◌, ℕ, List, length}
 use Rattle.std.specs.Prelude.{filter}
-use Rattle.text_lines.specs.Numbers.{number_of}
+use Rattle.text_lines.specs.NumberTokens.{number_of}
 use Rattle.text_items.proofs.Values.{GoesOn}
 use Rattle.code_text.specs.RowLines.{says_something, row_numbers}
 use Rattle.code_text.proofs.row_lines.row_numbers.Given as goal

@@ -3,11 +3,11 @@ use Rattle.std.proofs.lemmas.Bool.{true≢false}
 use Rattle.std.proofs.lemmas.List.{length-map}
 use Rattle.crossing_codes.specs.declared.crossing.Code.{Code}
 use Rattle.crossing_codes.specs.declared.crossing.Crossing.{Crossing}
-use Rattle.code_rows.specs.CodeFault.{first_fault}
-use Rattle.code_rows.specs.Rows.{row_of, all_names, numbered, IsCodeOf}
+use Rattle.code_rows.specs.CodeFault.{first_code_fault}
+use Rattle.code_rows.specs.Rows.{row_of_crossing, all_names, numbered_row, IsCodeOf}
 use Rattle.code_rows.proofs.AllJoined.{joined_faultless, faultless_joined}
 use Rattle.code_text.specs.declared.gauss_lines.GaussPassage.{GaussPassage}
-use Rattle.code_text.specs.GaussCheck.{all_of, agrees}
+use Rattle.code_text.specs.GaussCheck.{all_of, agrees_with_gauss}
 use Rattle.code_text.specs.GaussSigns.{AreSigned}
 use Rattle.code_text.proofs.SignsForced.{code_forced}
 use Rattle.code_text.proofs.text_grid.said_by.Goals as goal
@@ -16,9 +16,9 @@ use Rattle.code_text.proofs.text_grid.said_by.Goals as goal
 pub are_joined-requires-clause-count : goal.are_joined-requires-clause-count
 are_joined-requires-clause-count c =
     let given = c.args.text.now.rows in
-    let rows = ap (map row_of) c.from_vec.ensures ∙ (c.in_ok-crossings.ensures.rows ∙ ap (map row_of) c.as_slice-2.ensures) in
+    let rows = ap (map row_of_crossing) c.from_vec.ensures ∙ (c.in_ok-crossings.ensures.rows ∙ ap (map row_of_crossing) c.as_slice-2.ensures) in
     let same : length c.from_vec.result ≡ length given =
-    sym (length-map c.from_vec.result row_of) ∙ (ap length (rows ∙ c.requires.rows.rows) ∙ length-map given (numbered (all_names given))) in
+    sym (length-map c.from_vec.result row_of_crossing) ∙ (ap length (rows ∙ c.requires.rows.rows) ∙ length-map given (numbered_row (all_names given))) in
     c.requires.rows.edges ∙ ap (λ (n : ℕ). 2 * n) (sym same)
 
 -- where there are Gauss lines, the code with their signs is the only one that may have them
@@ -39,9 +39,9 @@ returns-then-not-agrees-clause-none c =
           let by_items = subst (λ (ps : List GaussPassage). AreSigned ps code.crossings c.in_ok-crossings.crossings.items) passages by_slice in
           let are = subst (λ (ys : List Crossing). AreSigned (all_of t.walks) code.crossings ys) (sym c.from_vec.ensures) by_items in
           let same = code_forced t.rows t.loops t.walks code said other some c.requires.rows are refl refl says.rows says.gauss in
-          let has : agrees said t.walks ≡ true = subst (λ (z : Code). agrees z t.walks ≡ true) same says.gauss in
-          let lacks : agrees said t.walks ≡ false =
-          ap (agrees said) (sym c.as_slice-walks.ensures) ∙ (sym c.agrees.ensures ∙ c.if-not-agrees.true) in
+          let has : agrees_with_gauss said t.walks ≡ true = subst (λ (z : Code). agrees_with_gauss z t.walks ≡ true) same says.gauss in
+          let lacks : agrees_with_gauss said t.walks ≡ false =
+          ap (agrees_with_gauss said) (sym c.as_slice-walks.ensures) ∙ (sym c.agrees.ensures ∙ c.if-not-agrees.true) in
           true≢false (sym has ∙ lacks);
     }
 
@@ -63,7 +63,7 @@ returns-then-not-are_joined-clause-none c =
           let are = subst (λ (ys : List Crossing). AreSigned (all_of t.walks) code.crossings ys) (sym c.from_vec.ensures) by_items in
           let same = code_forced t.rows t.loops t.walks code said other some c.requires.rows are refl refl says.rows says.gauss in
           let of = subst (λ (z : Code). IsCodeOf t.rows t.loops z) same says.rows in
-          let none : first_fault said ≡ None = subst (λ (z : Code). first_fault z ≡ None) same says.faultless in
+          let none : first_code_fault said ≡ None = subst (λ (z : Code). first_code_fault z ≡ None) same says.faultless in
           let yes = c.are_joined.ensures.1 (faultless_joined t.rows t.loops said c.requires.few c.requires.paired of none) in
           let no = c.if-not-are_joined.true in
           cc;
@@ -74,7 +74,7 @@ returns-clause-some c =
     let t = c.args.text.now in
     let code = c.args.code in
     let said : Code = record { crossings = c.from_vec.result; edges = code.edges; loops = code.loops } in
-    let rows = ap (map row_of) c.from_vec.ensures ∙ (c.in_ok-crossings.ensures.rows ∙ ap (map row_of) c.as_slice-2.ensures) in
+    let rows = ap (map row_of_crossing) c.from_vec.ensures ∙ (c.in_ok-crossings.ensures.rows ∙ ap (map row_of_crossing) c.as_slice-2.ensures) in
     let of : IsCodeOf t.rows t.loops said = record {
       rows = rows ∙ c.requires.rows.rows;
       edges = c.requires.rows.edges;
@@ -85,5 +85,5 @@ returns-clause-some c =
       rows = of;
       faultless = joined_faultless t.rows t.loops code said c.requires.few c.requires.paired c.requires.rows of c.requires.faultless
           (c.are_joined.ensures.0 c.if-not-are_joined.false);
-      gauss = ap (agrees said) (sym c.as_slice-walks.ensures) ∙ (sym c.agrees.ensures ∙ c.if-not-agrees.false);
+      gauss = ap (agrees_with_gauss said) (sym c.as_slice-walks.ensures) ∙ (sym c.agrees.ensures ∙ c.if-not-agrees.false);
     }

@@ -1,5 +1,5 @@
 use Rattle.std.proofs.Common.{◌∙◌, ap}
-use Rattle.colour_seeds.specs.Fits.{few_ways}
+use Rattle.colour_seeds.specs.FewWays.{few_ways}
 use Rattle.colour_numbers.specs.Numbers.{choices_of, coloured_by}
 use Rattle.colour_numbers.proofs.counting.fits_by.Goals as goal
 

@@ -1,7 +1,7 @@
 use Rattle.std.proofs.Common.{◌≡◌, ◌⊎◌, false, Err, IfOk, IfErr, subst}
 use Rattle.cocycle_core.specs.Cocycle.{Cochain}
 use Rattle.colour_seeds.specs.declared.counting.CountFault.TheVariants as fault
-use Rattle.colour_seeds.specs.Fits.{few_ways}
+use Rattle.colour_seeds.specs.FewWays.{few_ways}
 use Rattle.colour_seeds.specs.Plan.{seeds_in}
 use Rattle.colour_weights.specs.Weights.{weights}
 use Rattle.colour_numbers.proofs.counting.strand_weights.Goals as goal

@@ -18,7 +18,7 @@ loop-column-preserved c =
     let covered =
     c.has_bit.ensures
     ∙ (c.covering-covering.ensures column
-    ∙ (ap (λ (s : ColumnSpans). lanes.covers s.lows s.highs c.args.row column) c.requires.spans ∙ columns_cover d column c.args.row (omega arith))) in
+    ∙ (ap (λ (s : ColumnSpans). lanes.lane_covers s.lows s.highs c.args.row column) c.requires.spans ∙ columns_cover d column c.args.row (omega arith))) in
     elim c.if-has_bit.branch [
       | then-has_bit w ↦
           let all = more ∙ ap (λ b. before ++ cond b (record { column = column; up = is_up d column } ∷ []) []) (sym covered ∙ w.if-has_bit.true) in (

@@ -1,7 +1,7 @@
 use Rattle.std.proofs.Common.{◌<◌, ◌∙◌, List, sym, subst}
 use Rattle.colour_seeds.specs.declared.progress.Step.{Step}
 use Rattle.colour_seeds.specs.declared.progress.Progress.{Progress}
-use Rattle.colour_seeds.specs.Plan.{Leads, after, nothing}
+use Rattle.colour_seeds.specs.Plan.{LeadsBySteps, progress_after, nothing}
 use Rattle.colour_seeds.specs.Seeded.{Reaches}
 use Rattle.colour_seeds.proofs.Ways.{step_next, leads_more, reaches_more, no_seed_more, unread}
 use Rattle.colour_seeds.proofs.Seeds.{no_seed_column}
@@ -27,8 +27,8 @@ loop-step-preserved c =
     c.in-Some.is in
     record {
       leads =
-          subst (λ (h : Progress). Leads d nothing c.in_ok-way.way.steps.items h) (sym c.in_ok-way.ensures.progress)
-          (subst (λ (steps : List Step). Leads d nothing steps (after d g s)) (sym c.in_ok-way.ensures.steps)
+          subst (λ (h : Progress). LeadsBySteps d nothing c.in_ok-way.way.steps.items h) (sym c.in_ok-way.ensures.progress)
+          (subst (λ (steps : List Step). LeadsBySteps d nothing steps (progress_after d g s)) (sym c.in_ok-way.ensures.steps)
           (leads_more d nothing g c.loop-step.way.steps.items s c.loop-step.invariant.leads next.allowed));
       reaches =
           subst (Reaches d c.args.way.progress) (sym c.in_ok-way.ensures.progress)

@@ -3,14 +3,14 @@ use Rattle.std.specs.List.{All, Contains}
 use Rattle.std.proofs.lemmas.Bool.{both_ways}
 use Rattle.std.proofs.lemmas.List.Elements.{All-from_get_or}
 use Rattle.colour_seeds.specs.declared.progress.Step.{Step}
-use Rattle.colour_seeds.specs.Plan.{Leads, nothing, is_known, seed_columns, seeds_in}
+use Rattle.colour_seeds.specs.Plan.{LeadsBySteps, nothing, is_known, seed_columns, seeds_in}
 use Rattle.colour_seeds.proofs.Ways.{nothing_known}
 use Rattle.colour_seeds.proofs.Seeds.{among_more}
 use Rattle.colour_seeds.proofs.seeding.way_of.Goals as goal
 
 pub loop-seed-init : goal.loop-seed-init
 loop-seed-init c = record {
-  leads = subst (λ (steps : List Step). Leads c.args.grid.now nothing steps nothing) (sym c.new.ensures.items) refl;
+  leads = subst (λ (steps : List Step). LeadsBySteps c.args.grid.now nothing steps nothing) (sym c.new.ensures.items) refl;
   taken = λ k lt. absurd (omega arith);
   settled = λ x e. absurd (both_ways (is_known nothing x) (nothing_known x) e);
   among = subst (λ (steps : List Step). All (Contains c.args.seeds.now) (seed_columns steps)) (sym c.new.ensures.items) (λ k e lt. absurd (omega arith));

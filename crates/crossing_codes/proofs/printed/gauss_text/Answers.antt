@@ -3,7 +3,7 @@ use Rattle.std.specs.List.{All}
 use Rattle.std.proofs.lemmas.Bool.{eqb-true, eqb-false}
 use Rattle.crossing_codes.specs.declared.passages.Passage.{Passage}
 use Rattle.crossing_codes.specs.Passages.{passages_from}
-use Rattle.crossing_codes.specs.Layout.{HasNumber}
+use Rattle.crossing_codes.specs.Layout.{HasCrossingNumber}
 use Rattle.crossing_codes.specs.OnTheWay.{LiesIn}
 use Rattle.crossing_codes.specs.Printed.{gauss_line, gauss_text}
 use Rattle.crossing_codes.proofs.EdgeSteps.{round_inside}
@@ -29,7 +29,7 @@ push_gauss_line-requires-clause-numbers c =
     let table = c.crossing_numbers-numbers.result in
     let round : c.as_slice.result.now ≡ passages_from d (get_or ss i 0) =
     c.as_slice.ensures.value ∙ (c.in_ok-push_round.ensures ∙ ap (λ (ps : List Passage). ps ++ passages_from d (get_or ss i 0)) c.clear.ensures.items) in
-    subst (All (HasNumber d table)) (sym round)
+    subst (All (HasCrossingNumber d table)) (sym round)
     (round_numbered d c.size-size.ensures.grid table ss i c.crossing_numbers-numbers.ensures
     (c.as_slice-start-items.ensures.value ∙ c.starts-starts.ensures.starts) c.loop-start-test.true)
 

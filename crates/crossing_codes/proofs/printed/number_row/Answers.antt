@@ -2,7 +2,7 @@ use Rattle.std.proofs.Common.{◌≡◌, ◌<◌, ◌+◌, ◌++◌, ◌∷◌, 
 use Rattle.std.proofs.lemmas.List.{length-append}
 use Rattle.grid_core.specs.declared.span.Span.{Span}
 use Rattle.crossing_codes.specs.Passages.{Crossed}
-use Rattle.crossing_codes.specs.Layout.{cell, crossings_below, IsNumbered}
+use Rattle.crossing_codes.specs.Layout.{cell_place, crossings_below, IsNumbered}
 use Rattle.crossing_codes.proofs.Members.{Has}
 use Rattle.crossing_codes.proofs.NumberSteps.{LieBefore, up_to, crossed, below_before, number_more, before_more, up_to_yes, up_to_no, up_to_none, up_to_all}
 use Rattle.crossing_codes.proofs.printed.number_row.Goals as goal
@@ -50,8 +50,8 @@ loop-column-preserved c =
             number = (let e = so_far.number in omega (arith, e, n)) ∙ ap length (sym next);
             few = omega arith;
             before =
-                subst (λ (ys : List Crossed). LieBefore (cell (k + 1) r) ys) (sym next)
-                (before_more xs k r (cell k r) (cell (k + 1) r) so_far.before (omega arith) (omega arith));
+                subst (λ (ys : List Crossed). LieBefore (cell_place (k + 1) r) ys) (sym next)
+                (before_more xs k r (cell_place k r) (cell_place (k + 1) r) so_far.before (omega arith) (omega arith));
             numbers = subst (λ (ys : List Crossed). IsNumbered ys (set table w.cell.result (c.loop-column.number + 1))) (sym next)
                 (number_more xs table k r (c.loop-column.number + 1) w.cell.result w.cell.ensures.is (ap (λ (i : ℕ). i + 1) so_far.number) room
                 (subst (λ (i : ℕ). LieBefore i xs) (sym w.cell.ensures.is) so_far.before) so_far.numbers);

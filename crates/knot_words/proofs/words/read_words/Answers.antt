@@ -1,5 +1,5 @@
 use Rattle.std.proofs.Common.{rules, codes}
-use Rattle.knot_words.specs.Numbers.{texts_of}
+use Rattle.knot_words.specs.OptionNumbers.{texts_of}
 use Rattle.knot_words.proofs.KnotReads.{budget_read, number_is_given, seed_read, spare_read, workers_read}
 use Rattle.knot_words.proofs.words.read_words.Goals as goal
 

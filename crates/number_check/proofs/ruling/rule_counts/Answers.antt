@@ -1,5 +1,5 @@
 use Rattle.std.proofs.Common.{rules}
-use Rattle.number_check.specs.Holds.{NumbersDiffer}
+use Rattle.number_check.specs.EvidenceHolds.{NumbersDiffer}
 use Rattle.number_check.proofs.Rulings.{numbers_apart}
 use Rattle.number_check.proofs.ruling.rule_counts.Goals as goal
 

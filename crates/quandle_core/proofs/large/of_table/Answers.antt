@@ -1,6 +1,6 @@
 use Rattle.std.proofs.Common.{◌∙◌, sym, ap, subst}
 use Rattle.quandle_core.specs.Quandle.{Table, IsQuandle, back}
-use Rattle.quandle_core.specs.Columns.{columns}
+use Rattle.quandle_core.specs.Columns.{operation_columns}
 use Rattle.quandle_core.proofs.LargeColumns.{table_again, columns_again}
 use Rattle.quandle_core.proofs.large.of_table.Goals as goal
 
@@ -20,7 +20,7 @@ invariant_of-result c =
       subst IsQuandle (sym again) c.requires.laws,
       c.requires.few,
       columns_again t c.in_ok-forward.forward.items c.in_ok-forward.ensures,
-      c.in_ok-backward.ensures ∙ ap (λ (u : Table). columns c.args.order (back u)) (sym again),
+      c.in_ok-backward.ensures ∙ ap (λ (u : Table). operation_columns c.args.order (back u)) (sym again),
     )
 
 pub returns : goal.returns

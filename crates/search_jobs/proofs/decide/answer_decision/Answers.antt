@@ -1,7 +1,7 @@
 use Rattle.std.proofs.Common.{ap, sym, refl, ◌∙◌, subst}
 use Rattle.std.proofs.lemmas.Result.{IfOk-at_ok}
 use Rattle.verdict_core.specs.Diagrams.{grid_of}
-use Rattle.verdict_core.specs.Evidence.{Claims, Holds, HasEvidence, IsTidyVerdict}
+use Rattle.verdict_core.specs.Evidence.{Claims, VerdictHolds, HasEvidence, IsTidyVerdict}
 use Rattle.pair_verdict.specs.declared.decision.Decision.{Decision}
 use Rattle.pair_verdict.specs.Decided.{Decides}
 use Rattle.search_jobs.specs.declared.reply.Reply.{Reply}
@@ -26,7 +26,7 @@ returns-clause-claim c = λ bytes read done.
     let evidence = has_evidence v (sym (ap (λ (r : Reply). r.status) c.reply_of.ensures) ∙ done) in
     let first = grid_of input.first in
     let second = grid_of input.second in
-    let holds = IfOk-at_ok (λ (d : Decision). HasEvidence d.verdict → Holds first second d.verdict) c.in-Ok.is c.requires.holds evidence in
+    let holds = IfOk-at_ok (λ (d : Decision). HasEvidence d.verdict → VerdictHolds first second d.verdict) c.in-Ok.is c.requires.holds evidence in
     let p = problem_for asked first second in
     let decides = IfOk-at_ok (λ (d : Decision). Decides p input.quandles asked.workers d.verdict d.kept) c.in-Ok.is c.requires.decides in
     let claims = IfOk-at_ok (λ (d : Decision). Claims first second d.verdict) c.in-Ok.is c.requires.claims in

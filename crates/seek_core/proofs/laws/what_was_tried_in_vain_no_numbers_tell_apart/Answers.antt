@@ -6,7 +6,7 @@ use Rattle.verdict_core.specs.declared.problem.ProblemText.{ProblemText}
 use Rattle.verdict_core.specs.Diagrams.{grid_of}
 use Rattle.knot_text.proofs.Steady.{ok_is}
 use Rattle.evidence_core.specs.declared.blocks.Block.{Block}
-use Rattle.number_check.specs.Holds.{numbers_by}
+use Rattle.number_check.specs.EvidenceHolds.{numbers_by}
 use Rattle.number_search.specs.declared.seed_pair.SeedPair.{SeedPair}
 use Rattle.number_search.specs.Told.{ArePlansOf, fits_both}
 use Rattle.number_search.proofs.Held.{linking_agrees, blocks_agree}

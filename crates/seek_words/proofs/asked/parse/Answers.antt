@@ -3,7 +3,7 @@ use Rattle.std.proofs.lemmas.Result.{IfOk-weaker}
 use Rattle.clap.specs.Faults.{fault_of, is_simple_and_free}
 use Rattle.clap.specs.Kinds.{FailsBy}
 use Rattle.clap.specs.Simple.{App, HasMatchesOf}
-use Rattle.knot_words.specs.Numbers.{texts_of}
+use Rattle.knot_words.specs.OptionNumbers.{texts_of}
 use Rattle.seek_words.specs.Words.{seek_app}
 use Rattle.seek_words.proofs.Shown.{by_kinds, taken_by, refused_by}
 use Rattle.seek_words.proofs.asked.parse.Goals as goal

@@ -1,6 +1,6 @@
 use Rattle.clap.specs.Matches.{found_of}
 use Rattle.clap.specs.Walk.{rows_of}
-use Rattle.knot_words.specs.Numbers.{texts_of}
+use Rattle.knot_words.specs.OptionNumbers.{texts_of}
 use Rattle.seek_words.proofs.Shown.{refused_for}
 use Rattle.seek_words.proofs.asked.read_words.Goals as goal
 

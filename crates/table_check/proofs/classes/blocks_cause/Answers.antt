@@ -1,5 +1,5 @@
 use Rattle.std.proofs.Common.{◌∙◌, sym}
-use Rattle.table_check.specs.Holds.{ShownAt}
+use Rattle.table_check.specs.TableHolds.{ShownAt}
 use Rattle.table_check.proofs.Below.{below_none, below_more}
 use Rattle.table_check.proofs.Causes.{shown_here, fails_here}
 use Rattle.table_check.proofs.classes.blocks_cause.Goals as goal

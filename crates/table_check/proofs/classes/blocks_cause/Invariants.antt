@@ -1,5 +1,5 @@
 use Rattle.std.proofs.Common.{◌<◌, ℕ}
-use Rattle.table_check.specs.Holds.{ShownAt}
+use Rattle.table_check.specs.TableHolds.{ShownAt}
 use Rattle.table_check.proofs.classes.blocks_cause.Given as goal
 
 abbrev pub invariant-loop-at : goal.invariant-loop-at

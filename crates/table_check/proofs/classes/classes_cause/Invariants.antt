@@ -1,4 +1,4 @@
-use Rattle.table_check.specs.Holds.{ClassesHold}
+use Rattle.table_check.specs.TableHolds.{ClassesHold}
 use Rattle.table_check.proofs.classes.classes_cause.Given as goal
 
 abbrev pub invariant-loop-at : goal.invariant-loop-at

@@ -1,5 +1,5 @@
 use Rattle.std.proofs.Common.{◌∙◌, sym}
-use Rattle.table_check.specs.Holds.{numbers_at}
+use Rattle.table_check.specs.TableHolds.{numbers_at}
 use Rattle.table_check.proofs.Causes.{differ_yes, differ_no}
 use Rattle.table_check.proofs.pairs.differ_at.Goals as goal
 

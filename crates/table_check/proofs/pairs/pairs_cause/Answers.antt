@@ -1,5 +1,5 @@
 use Rattle.std.proofs.Common.{◌≡◌, length, ap, arith}
-use Rattle.table_check.specs.Holds.{PairsWith}
+use Rattle.table_check.specs.TableHolds.{PairsWith}
 use Rattle.table_check.proofs.Below.{below_none, below_more, below_all}
 use Rattle.table_check.proofs.pairs.pairs_cause.Goals as goal
 

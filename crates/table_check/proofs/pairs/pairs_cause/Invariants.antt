@@ -1,4 +1,4 @@
-use Rattle.table_check.specs.Holds.{PairsHold}
+use Rattle.table_check.specs.TableHolds.{PairsHold}
 use Rattle.table_check.proofs.pairs.pairs_cause.Given as goal
 
 abbrev pub invariant-loop-first : goal.invariant-loop-first

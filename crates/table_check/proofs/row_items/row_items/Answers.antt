@@ -2,7 +2,7 @@ use Rattle.std.proofs.Common.{◌<◌, ◌∷◌, []}
 use Rattle.std.proofs.lemmas.List.Elements.{All-append, All-cons, All-nil}
 use Rattle.std.proofs.lemmas.Result.{err_from_is_err_and}
 use Rattle.text_items.specs.Reading.{in_turn}
-use Rattle.table_check.specs.declared.row_items.Row.{Row}
+use Rattle.table_check.specs.declared.row_items.KnotRow.{KnotRow}
 use Rattle.table_check.specs.Tables.{row_item}
 use Rattle.text_items.proofs.Turns.{turn_more, turn_fails, turns_done}
 use Rattle.table_check.proofs.row_items.row_items.Goals as goal
@@ -17,7 +17,7 @@ returns-in_err-row_item-clause-read c =
 pub loop-preserved : goal.loop-preserved
 loop-preserved c =
     let item = row_item c.args.classes in
-    let is_known = λ (r : Row). r.class < c.args.classes in (
+    let is_known = λ (r : KnotRow). r.class < c.args.classes in (
       rw c.in_ok-push.ensures.items (turn_more item c.loop.rows.items c.args.count c.loop.counter c.loop.lines c.in_ok-row_item.field-0
           c.row_item.new.lines (in_turn item c.args.count c.args.lines.now) c.loop-test.true c.in_ok-row_item.ensures.read c.loop.invariant.0),
       rw c.in_ok-push.ensures.items (All-append is_known c.loop.rows.items (c.in_ok-row_item.field-0 ∷ []) c.loop.invariant.1

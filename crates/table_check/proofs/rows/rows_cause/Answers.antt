@@ -1,5 +1,5 @@
 use Rattle.std.proofs.Common.{◌≡◌, length, ap, arith}
-use Rattle.table_check.specs.Holds.{RowAt}
+use Rattle.table_check.specs.TableHolds.{RowAt}
 use Rattle.table_check.proofs.Below.{below_none, below_more, below_all}
 use Rattle.table_check.proofs.rows.rows_cause.Goals as goal
 

@@ -2,7 +2,7 @@ use Rattle.std.proofs.Common.{◌≡◌, ◌≤◌, List, ℕ, length, false, tr
 use Rattle.std.specs.List.{list_all}
 use Rattle.grid_core.specs.declared.grid.TheConstants.{MAX_SIZE}
 use Rattle.grid_core.specs.Diagram.{Diagram}
-use Rattle.grid_core.specs.Fault.{first_fault}
+use Rattle.grid_core.specs.Fault.{first_grid_fault}
 use Rattle.text_items.specs.declared.fault.TextFault.TheVariants.{Malformed}
 use Rattle.text_items.proofs.GridLines.{o_outside, o_bad, o_good}
 use Rattle.text_items.proofs.grids.o_at.Goals as goal
@@ -25,8 +25,8 @@ returns-in-Ok c =
     let test : list_all (λ v. nat_lt v (length x)) rows.items ≡ true =
     sym (c.all_below.ensures ∙ ap₂ (λ (vs : List ℕ) (n : ℕ). list_all (λ v. nat_lt v n) vs) c.as_slice.ensures.value c.len.ensures.value)
     ∙ c.if-not-all_below.false in
-    let none : first_fault x rows.items ≡ None =
-    ap₂ first_fault (sym c.as_slice-2.ensures.value) (sym c.as_slice-3.ensures.value) ∙ sym c.in-Ok.ensures.fault in
+    let none : first_grid_fault x rows.items ≡ None =
+    ap₂ first_grid_fault (sym c.as_slice-2.ensures.value) (sym c.as_slice-3.ensures.value) ∙ sym c.in-Ok.ensures.fault in
     let grid : c.in-Ok.grid ≡ record { x = x; o = rows.items } =
     c.in-Ok.ensures.grid ∙ ap₂ (λ (xs os : List ℕ). record { x = xs; o = os }) c.as_slice-2.ensures.value c.as_slice-3.ensures.value in
     o_good rows x c.args.line.now fits c.in_ok-rows.ensures test none ∙ ap (λ (d : Diagram). Ok d) (sym grid)
@@ -39,6 +39,6 @@ returns-in-Err c =
     let test : list_all (λ v. nat_lt v (length x)) rows.items ≡ true =
     sym (c.all_below.ensures ∙ ap₂ (λ (vs : List ℕ) (n : ℕ). list_all (λ v. nat_lt v n) vs) c.as_slice.ensures.value c.len.ensures.value)
     ∙ c.if-not-all_below.false in
-    let some : first_fault x rows.items ≡ Some c.in-Err.field-0 =
-    ap₂ first_fault (sym c.as_slice-2.ensures.value) (sym c.as_slice-3.ensures.value) ∙ sym c.in-Err.ensures.fault in
+    let some : first_grid_fault x rows.items ≡ Some c.in-Err.field-0 =
+    ap₂ first_grid_fault (sym c.as_slice-2.ensures.value) (sym c.as_slice-3.ensures.value) ∙ sym c.in-Err.ensures.fault in
     o_bad rows x c.args.line.now c.in-Err.field-0 fits c.in_ok-rows.ensures test some ∙ ap (λ n. Err (Malformed n)) (sym c.number-at.ensures)

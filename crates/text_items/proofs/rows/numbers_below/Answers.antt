@@ -1,7 +1,7 @@
 use Rattle.std.proofs.Common.{◌≡◌, ◌==◌, ◌&&◌, ◌∙◌, ℕ, List, true, false, length, map, Err, sym, ap, arith, nat_lt}
 use Rattle.std.specs.List.{list_all, list_any}
 use Rattle.text_items.specs.declared.fault.TextFault.TheVariants.{Malformed}
-use Rattle.text_items.specs.Numbers.{is_long}
+use Rattle.text_items.specs.NumberLines.{is_long}
 use Rattle.text_items.specs.Kept.{low}
 use Rattle.text_items.proofs.Cuts.{all_bad, all_good}
 use Rattle.text_items.proofs.rows.numbers_below.Goals as goal

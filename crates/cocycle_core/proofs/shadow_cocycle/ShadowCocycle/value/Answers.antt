@@ -1,7 +1,7 @@
 use Rattle.std.proofs.Common.{◌≡◌, ◌∙◌, ◌<◌, ◌+◌, ◌*◌, ℕ, List, length, subst, ap, sym}
 use Rattle.std.specs.Prelude.{slice_index}
 use Rattle.std.proofs.lemmas.Grind.{get_or_default_zero}
-use Rattle.cocycle_core.specs.ShadowCocycle.{ShadowCochain, value}
+use Rattle.cocycle_core.specs.ShadowCocycle.{ShadowCochain, shadow_value}
 use Rattle.cocycle_core.proofs.shadow_cocycle.ShadowCocycle.value.Goals as goal
 
 pub returns-clause-below : goal.returns-clause-below
@@ -11,7 +11,7 @@ returns-clause-below c =
     let order : c.order.result ≡ c.self.inside.quandle.order = c.order.ensures.order in
     let inside : c.place.result < length c.self.inside.table.items =
     subst (λ (n : ℕ). c.place.result < n) (ap (λ n. n * n * n) order ∙ sym c.self.invariant.cube) c.place.ensures.below in
-    let is : c.index.result.now ≡ value t c.args.w c.args.x c.args.y =
+    let is : c.index.result.now ≡ shadow_value t c.args.w c.args.x c.args.y =
     c.index.ensures ∙ (get_or_default_zero entries c.place.result c.index.result.now inside
     ∙ ap (slice_index entries) (c.place.ensures.place ∙ ap (λ n. (c.args.w * n + c.args.x) * n + c.args.y) order)) in
     let w = subst (λ (t : ShadowCochain). c.args.w < t.quandle.order) (sym c.self.view_is) c.requires.0 in

@@ -4,11 +4,11 @@ use Rattle.std.specs.List.{All}
 use Rattle.std.proofs.lemmas.List.{length-take}
 use Rattle.grid_core.specs.Diagram.{size}
 use Rattle.quandle_core.specs.Quandle.{Table}
-use Rattle.colour_weights.specs.ShadowWalkSum.{weight_by_rows}
+use Rattle.colour_weights.specs.ShadowWalkSum.{shadow_weight_by_rows}
 use Rattle.colour_numbers.specs.declared.lane.Lane.{Lane}
-use Rattle.colour_numbers.specs.Lanes.{weight_of}
+use Rattle.colour_numbers.specs.Lanes.{weight_by_lanes}
 use Rattle.colour_numbers.specs.Shadows.{Shadows}
-use Rattle.colour_numbers.specs.Weighing.{LaneFits}
+use Rattle.colour_numbers.specs.Weighing.{LaneIsWithin}
 use Rattle.colour_numbers.proofs.Lanes.{lanes_within, weight_is}
 use Rattle.colour_numbers.proofs.ShadowTallies.{partly_all, partly_more, partly_none, partly_room}
 use Rattle.colour_numbers.proofs.regions.RegionsWeigher.add.Goals as goal
@@ -21,8 +21,8 @@ weight_of-weight-requires-clause-within c =
     let d = c.self.inside.grid.now in
     let long : length (take c.size.result c.args.colours.now) ≡ size d =
     omega (arith, length-take c.size.result c.args.colours.now, c.size.ensures.size, c.requires.colours.0, c.size-size.ensures.grid.most) in
-    subst (λ (n : ℕ). All (LaneFits n) c.as_slice.result.now) (sym (ap (λ (xs : List ℕ). length xs) c.split_at.ensures.front ∙ long))
-    (subst (All (LaneFits (size d))) (sym c.as_slice.ensures.value) (lanes_within d c.size-size.ensures.grid c.self.inside.lanes.items c.self.invariant.1))
+    subst (λ (n : ℕ). All (LaneIsWithin n) c.as_slice.result.now) (sym (ap (λ (xs : List ℕ). length xs) c.split_at.ensures.front ∙ long))
+    (subst (All (LaneIsWithin (size d))) (sym c.as_slice.ensures.value) (lanes_within d c.size-size.ensures.grid c.self.inside.lanes.items c.self.invariant.1))
 
 pub loop-outer-preserved : goal.loop-outer-preserved
 loop-outer-preserved c =
@@ -34,11 +34,11 @@ loop-outer-preserved c =
     let u = c.weight_of-weight.result in
     let xs = c.split_at.result.0.now in
     let is = c.weight_of-weight.ensures.weight
-    ∙ (ap (λ (ls : List Lane). weight_of w ls xs n) c.as_slice.ensures.value
+    ∙ (ap (λ (ls : List Lane). weight_by_lanes w ls xs n) c.as_slice.ensures.value
     ∙ (weight_is w d c.self.inside.lanes.items xs n c.self.invariant.1
-    ∙ (ap (λ (xs : List ℕ). weight_by_rows w d xs n) c.split_at.ensures.front
-    ∙ (ap (λ (k : ℕ). weight_by_rows w d (take k f) n) c.size.ensures.size
-    ∙ ap (λ (s : Shadows). weight_by_rows s.cocycle s.diagram (take (size s.diagram) f) n) c.self.view_is)))) in
+    ∙ (ap (λ (xs : List ℕ). shadow_weight_by_rows w d xs n) c.split_at.ensures.front
+    ∙ (ap (λ (k : ℕ). shadow_weight_by_rows w d (take k f) n) c.size.ensures.size
+    ∙ ap (λ (s : Shadows). shadow_weight_by_rows s.cocycle s.diagram (take (size s.diagram) f) n) c.self.view_is)))) in
     let below : u < s.cocycle.modulus = subst (λ (s : Shadows). u < s.cocycle.modulus) c.self.view_is c.weight_of-weight.ensures.below in
     ap (λ (xs : List ℕ). slice_set xs u (slice_index xs u + 1)) c.loop-outer.invariant
     ∙ partly_more s.cocycle s.diagram c.args.counts.now f n u is below

@@ -2,17 +2,17 @@ use Rattle.std.proofs.Common.{◌≡◌, ◌∙◌, ap, sym, subst, refl, ℕ, s
 use Rattle.std.proofs.lemmas.List.{get_or_read}
 use Rattle.frontier_core.specs.declared.queue.Queue.{Queue}
 use Rattle.frontier_core.specs.Chain.{held_by, queue_at, shorter, IsLinked}
-use Rattle.frontier_core.specs.Held.{Held, first_of_least, without_first_of_least}
+use Rattle.frontier_core.specs.Held.{HeldIds, first_of_least, without_first_of_least}
 use Rattle.frontier_core.specs.Order.{SizedId, IsOrderOf, PopsLeast}
 use Rattle.frontier_core.proofs.Orders.{order_popped}
 use Rattle.frontier_core.proofs.Popping as popping
 use Rattle.frontier_core.proofs.frontier.Frontier.pop_least.Goals as goal
 
 -- the answer and what is left are those of the lists
-popped : (order : List SizedId) (held : Held) (answer : Option ℕ) (new : Held) → answer ≡ first_of_least held → new ≡ without_first_of_least held
+popped : (order : List SizedId) (held : HeldIds) (answer : Option ℕ) (new : HeldIds) → answer ≡ first_of_least held → new ≡ without_first_of_least held
     → IsOrderOf order held → PopsLeast order answer new
 popped order held answer new first rest is =
-    subst (λ o. PopsLeast order o new) (sym first) (subst (λ (h : Held). PopsLeast order (first_of_least held) h) (sym rest) (order_popped order held is))
+    subst (λ o. PopsLeast order o new) (sym first) (subst (λ (h : HeldIds). PopsLeast order (first_of_least held) h) (sym rest) (order_popped order held is))
 
 pub returns-then-self-eq0-clause-first : goal.returns-then-self-eq0-clause-first
 returns-then-self-eq0-clause-first c = sym
@@ -58,5 +58,5 @@ returns-then-self-eq0-clause-order c = λ order is. popped order c.args.self.now
 pub returns-clause-below : goal.returns-clause-below
 returns-clause-below c =
     let within = popping.first_below c.self.inside.next.items c.self.inside.queues c.self.inside.mask c.self.invariant c.args.self.now c.self.view_is c.least_size-size.result c.least_size-size.ensures.in_mask c.least_size-size.ensures.set c.least_size-size.ensures.least in
-    let room = ap (λ (h : Held). h.capacity) c.self.view_is in
+    let room = ap (λ (h : HeldIds). h.capacity) c.self.view_is in
     omega (arith, within, room)

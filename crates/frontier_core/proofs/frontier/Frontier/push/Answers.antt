@@ -1,7 +1,7 @@
 use Rattle.std.proofs.Common.{◌≡◌, ◌∙◌, ap₂, sym, subst, ℕ, set, arith, ◌<◌, ◌++◌, ◌∷◌, [], length}
 use Rattle.frontier_core.specs.declared.queue.Queue.{Queue}
 use Rattle.frontier_core.specs.Chain.{held_by}
-use Rattle.frontier_core.specs.Held.{Held, pushed}
+use Rattle.frontier_core.specs.Held.{HeldIds, pushed}
 use Rattle.frontier_core.specs.Order.{IsOrderOf, sized}
 use Rattle.frontier_core.proofs.Pushing as pushing
 use Rattle.frontier_core.proofs.Orders.{order_pushed}
@@ -34,5 +34,5 @@ returns-clause-order c = λ order is.
     let same = lists c in
     let within : c.args.size < length c.args.self.now.by_size =
     pushing.has_size c.self.inside.next.items c.self.inside.queues c.self.inside.mask c.self.invariant c.args.self.now c.self.view_is c.args.id c.args.size c.requires.below c.requires.free c.requires.size in
-    subst (λ (h : Held). IsOrderOf (order ++ sized c.args.id c.args.size ∷ []) h) (sym same)
+    subst (λ (h : HeldIds). IsOrderOf (order ++ sized c.args.id c.args.size ∷ []) h) (sym same)
     (order_pushed order c.args.self.now c.args.id c.args.size within is)

@@ -4,7 +4,7 @@ use Rattle.std.proofs.lemmas.Bool.{true≢false}
 use Rattle.linking_core.specs.Linking.{linking}
 use Rattle.verdict_core.specs.Diagrams.{grid_of}
 use Rattle.plain_jobs.specs.Comparison.{compared_line}
-use Rattle.plain_jobs.specs.Jobs.Linking.{numbers_line, numbers_are_alike, linking_text}
+use Rattle.plain_jobs.specs.Jobs.Linking.{linking_numbers_line, numbers_are_alike, linking_text}
 use Rattle.plain_jobs.proofs.Compared.{told_apart}
 use Rattle.plain_jobs.proofs.jobs.linking.answer_pair.Goals as goal
 
@@ -15,5 +15,5 @@ returns-in-Ok-clause-claim c = λ ends equivalent.
     let same = (signed_items (linking d) (linking e)).1 (c.equivalent_diagrams_have_equal_linking_numbers.ensures.list d e equivalent) in
     let alike = numbers_are_alike (linking d) (linking e) in
     let whole : c.new.result.text ≡ linking_text d e = search rules in
-    let is = whole ∙ sym (append_assoc (numbers_line d) (numbers_line e) (compared_line alike)) in
-    true≢false (sym same ∙ told_apart (numbers_line d ++ numbers_line e) c.new.result.text alike is ends)
+    let is = whole ∙ sym (append_assoc (linking_numbers_line d) (linking_numbers_line e) (compared_line alike)) in
+    true≢false (sym same ∙ told_apart (linking_numbers_line d ++ linking_numbers_line e) c.new.result.text alike is ends)

@@ -1,6 +1,6 @@
 use Rattle.std.proofs.Common.{◌≡◌, ℕ, ap, subst}
 use Rattle.search_book.specs.declared.problem.Problem.{Problem}
-use Rattle.search_book.specs.Claim.{Claims}
+use Rattle.search_book.specs.Claim.{ClaimsEntry}
 use Rattle.search_pool.specs.declared.locked.Task.{Task}
 use Rattle.search_pool.specs.Task.{AllowsOffers}
 use Rattle.search_pool.proofs.Tasks.{allows_offers}
@@ -8,7 +8,7 @@ use Rattle.search_pool.proofs.locked.Locked.claim.Goals as goal
 
 pub returns-in-Work-clause-handed : goal.returns-in-Work-clause-handed
 returns-in-Work-clause-handed g c =
-    let claims = subst (λ (w : ℕ). Claims c.args.self.now.book w c.in-Work.ticket.id c.claim.new.self) c.worker.ensures c.in-Work.ensures.answer.0 in
+    let claims = subst (λ (w : ℕ). ClaimsEntry c.args.self.now.book w c.in-Work.ticket.id c.claim.new.self) c.worker.ensures c.in-Work.ensures.answer.0 in
     record { claims = claims; ticket = c.in-Work.ensures.answer.1; cap = ap (λ (p : Problem). p.cap) c.problem.ensures.problem }
 
 pub returns-in-Work-clause-work : goal.returns-in-Work-clause-work

@@ -6,9 +6,9 @@ use Rattle.colour_seeds.specs.Settled.{Determine}
 use Rattle.evidence_core.specs.declared.blocks.Block.{Block}
 use Rattle.evidence_core.specs.declared.evidence.Counted.{Counted}
 use Rattle.verdict_core.specs.Diagrams.{grid_of}
-use Rattle.number_check.specs.Holds.{AreNumbersOf}
+use Rattle.number_check.specs.EvidenceHolds.{AreNumbersOf}
 use Rattle.table_check.specs.declared.class_items.Class.{Class}
-use Rattle.table_check.specs.declared.row_items.Row.{Row}
+use Rattle.table_check.specs.declared.row_items.KnotRow.{KnotRow}
 use Rattle.table_check.specs.declared.tables.KnotTable.{KnotTable}
 
 -- ---- classes
@@ -18,13 +18,13 @@ abbrev pub numbers_at : Class → ℕ → Option (List ℕ)
 numbers_at c at = slice_index_or c.counts at None
 
 -- the seeds of a class with such numbers, as evidence has them
-abbrev pub counted : Class → List ℕ → Counted
-counted c numbers = record { seeds = c.seeds; numbers = numbers }
+abbrev pub counted_of_class : Class → List ℕ → Counted
+counted_of_class c numbers = record { seeds = c.seeds; numbers = numbers }
 
 -- numbers by a block, if they are said, are the diagram's own, by the seeds of the class
 abbrev pub IsShown : Class → Block → Option (List ℕ) → Type 0
 IsShown c b None = Unit {0}
-IsShown c b (Some numbers) = AreNumbersOf b (grid_of c.diagram) (counted c numbers)
+IsShown c b (Some numbers) = AreNumbersOf b (grid_of c.diagram) (counted_of_class c numbers)
 
 -- so it is by the block at this place
 abbrev pub ShownAt : List Block → Class → ℕ → Type 0
@@ -72,12 +72,12 @@ PairsHold t many = (first : ℕ) → first < many → PairsWith t first (length 
 -- ---- rows
 
 -- its moves lead from its diagram to that of its class
-abbrev pub RowHolds : List Class → Row → Type 0
+abbrev pub RowHolds : List Class → KnotRow → Type 0
 RowHolds classes r = (c : Class) → slice_get classes r.class ≡ Some c → Joins (grid_of r.diagram) r.moves (grid_of c.diagram)
 
 -- the row at this place
 abbrev pub RowAt : KnotTable → ℕ → Type 0
-RowAt t at = (r : Row) → slice_get t.rows at ≡ Some r → RowHolds t.classes r
+RowAt t at = (r : KnotRow) → slice_get t.rows at ≡ Some r → RowHolds t.classes r
 
 -- each row below this place
 abbrev pub RowsHold : KnotTable → ℕ → Type 0
@@ -86,7 +86,7 @@ RowsHold t many = (at : ℕ) → at < many → RowAt t at
 -- ---- a table
 
 -- each class, each pair of classes and each row holds
-pub record Holds (t : KnotTable) : Type 0 where
+pub record TableHolds (t : KnotTable) : Type 0 where
   pub classes : ClassesHold t (length t.classes)
   pub pairs : PairsHold t (length t.classes)
   pub rows : RowsHold t (length t.rows)
@@ -95,8 +95,8 @@ pub record Holds (t : KnotTable) : Type 0 where
 
 -- two rows of one class of the table are equivalent, and each is to the diagram of the class
 pub record RowsJoined (t : KnotTable) : Type 0 where
-  pub to_class : (r : Row) (c : Class) → Contains t.rows r → slice_get t.classes r.class ≡ Some c → Joins (grid_of r.diagram) r.moves (grid_of c.diagram)
-  pub to_row : (r s : Row) (c : Class) → Contains t.rows r → Contains t.rows s → slice_get t.classes r.class ≡ Some c → s.class ≡ r.class
+  pub to_class : (r : KnotRow) (c : Class) → Contains t.rows r → slice_get t.classes r.class ≡ Some c → Joins (grid_of r.diagram) r.moves (grid_of c.diagram)
+  pub to_row : (r s : KnotRow) (c : Class) → Contains t.rows r → Contains t.rows s → slice_get t.classes r.class ≡ Some c → s.class ≡ r.class
       → Equivalent (grid_of r.diagram) (grid_of s.diagram)
 
 -- two classes are left open
@@ -110,5 +110,5 @@ ClassesApart t = (one two : ℕ) (c d : Class) → slice_get t.classes one ≡ S
 
 -- nor does one join rows of two such classes
 abbrev pub RowsApart : KnotTable → Type 0
-RowsApart t = (r s : Row) → Contains t.rows r → Contains t.rows s → r.class < length t.classes → s.class < length t.classes → r.class ≢ s.class
+RowsApart t = (r s : KnotRow) → Contains t.rows r → Contains t.rows s → r.class < length t.classes → s.class < length t.classes → r.class ≢ s.class
     → (AreOpen t r.class s.class → ⊥) → Equivalent (grid_of r.diagram) (grid_of s.diagram) → ⊥

@@ -14,8 +14,8 @@ texts_of words = map (λ w. string_bytes w) words
 
 -- the number that a text of digits spells, with a plus before them or without. A minus is taken before zeros alone, where `clap`
 -- reads it as a number, and counts as one digit more, of value 0
-abbrev pub number_of : Text → ℕ
-number_of text = digits_value 10 (without_leading_plus text)
+abbrev pub number_of_text : Text → ℕ
+number_of_text text = digits_value 10 (without_leading_plus text)
 
 -- an option with a whole number: its parser, and its default where it is not given
 abbrev pub number_rule : Text → ValueParser → Text → Rule

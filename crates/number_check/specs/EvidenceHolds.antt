@@ -12,8 +12,8 @@ use Rattle.evidence_core.specs.declared.evidence.Evidence.TheVariants.{Numbers, 
 use Rattle.evidence_core.specs.Links.{LinkingDiffers}
 
 -- the quandle that gives the colours
-abbrev pub table_of : Block → Table
-table_of b = coloured_by b.listed.table b.cocycle
+abbrev pub table_by_block : Block → Table
+table_by_block b = coloured_by b.listed.table b.cocycle
 
 -- how many colours are chosen by so many seeds
 abbrev pub choices_by : Block → ℕ → ℕ
@@ -26,7 +26,7 @@ numbers_by b d = numbers b.listed.table b.cocycle d
 -- the seeds settle the diagram and have few choices of colours, and the numbers are the diagram's own
 pub record AreNumbersOf (b : Block) (d : Diagram) (c : Counted) : Type 0 where
   pub settled : Determine c.seeds.items d
-  pub few : (table_of b).order ^ choices_by b (length c.seeds.items) ≤ MAX_CANDIDATES
+  pub few : (table_by_block b).order ^ choices_by b (length c.seeds.items) ≤ MAX_CANDIDATES
   pub own : c.numbers ≡ numbers_by b d
 
 -- the numbers of colourings are the diagrams' own, and differ
@@ -36,6 +36,6 @@ pub record NumbersDiffer (b : Block) (d e : Diagram) (one two : Counted) : Type 
   pub differ : one.numbers ≢ two.numbers
 
 -- the evidence holds
-abbrev pub Holds : Diagram → Diagram → Evidence → Type 0
-Holds d e (Numbers b one two) = NumbersDiffer b d e one two
-Holds d e (Linking one two) = LinkingDiffers d e one two
+abbrev pub EvidenceHolds : Diagram → Diagram → Evidence → Type 0
+EvidenceHolds d e (Numbers b one two) = NumbersDiffer b d e one two
+EvidenceHolds d e (Linking one two) = LinkingDiffers d e one two

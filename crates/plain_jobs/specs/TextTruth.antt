@@ -9,7 +9,7 @@ use Rattle.knot_text.specs.BraidChecks.{braidcheck_of}
 use Rattle.number_text.specs.declared.weighed.WeighedText.{WeighedText}
 use Rattle.number_text.specs.Weighed.{weighed_of}
 use Rattle.code_text.specs.TextGrid.{IsTrueDrawing}
-use Rattle.check_job.specs.Truth.{IsCertificate}
+use Rattle.check_job.specs.CertificateTruth.{IsCertificate}
 use Rattle.knot_words.specs.declared.job.PlainJob.{PlainJob}
 use Rattle.knot_words.specs.declared.job.PlainJob.TheVariants.{Check, Linking, Braidcheck, Weights, Grid}
 use Rattle.plain_jobs.specs.Comparison.{EndsDifferent}

@@ -10,18 +10,18 @@ use Rattle.knot_ports.specs.Status.{status_number}
 use Rattle.knot_ports.specs.declared.given.NoWords.{NoWords}
 use Rattle.knot_ports.specs.Given.{status_without_words}
 use Rattle.knot_jobs.specs.Call.{Call, call_of}
-use Rattle.knot_jobs.specs.Ending.{Ends}
-use Rattle.knot_jobs.specs.Truth.{TellsOnlyTruth}
-use Rattle.knot_words.specs.Numbers.{texts_of}
+use Rattle.knot_jobs.specs.Ending.{EndsJob}
+use Rattle.knot_jobs.specs.ReplyTruth.{TellsOnlyTruth}
+use Rattle.knot_words.specs.OptionNumbers.{texts_of}
 
 -- the call ended as is due with this status, and what was written with it is true
 pub record IsStatusOf (call : Call) (status : Status) : Type 0 where
   pub kept : Option Finding
-  pub ends : Ends call status kept
+  pub ends : EndsJob call status kept
   pub truth : TellsOnlyTruth call status
 
 -- the exit status is the number of such a status
-pub record IsExitOf (call : Call) (exit : ExitCode) : Type 0 where
+pub record IsExitOfKnot (call : Call) (exit : ExitCode) : Type 0 where
   pub status : Status
   pub number : exit_status exit ≡ status_number status
   pub is : IsStatusOf call status
@@ -32,7 +32,7 @@ came (Ok words) = Ok (texts_of words.items)
 came (Err why) = Err why
 
 -- the words came and the program ended as a call of them; or none did, and nothing was read or written
-abbrev pub EndsProgram : Result (List (List ℕ)) NoWords → (ℕ → ℕ) → Change → Change → ExitCode → Type 0
-EndsProgram (Ok words) searching source sink exit = IsExitOf (call_of words searching source sink) exit
-EndsProgram (Err why) searching source sink exit =
+abbrev pub EndsKnot : Result (List (List ℕ)) NoWords → (ℕ → ℕ) → Change → Change → ExitCode → Type 0
+EndsKnot (Ok words) searching source sink exit = IsExitOfKnot (call_of words searching source sink) exit
+EndsKnot (Err why) searching source sink exit =
     (exit_status exit ≡ status_without_words why) × (IsUntouched source × IsUntouched sink)

@@ -4,7 +4,7 @@ use Rattle.std.specs.Prelude.{◌≡◌, ℕ, List, Ok}
 use Rattle.grid_moves.specs.Joining.{Equivalent}
 use Rattle.verdict_core.specs.declared.problem.ProblemText.{ProblemText}
 use Rattle.verdict_core.specs.Diagrams.{grid_of}
-use Rattle.cert_check.specs.Truth.{IsTrueVerdict}
+use Rattle.cert_check.specs.VerdictTruth.{IsTrueVerdict}
 use Rattle.number_text.specs.declared.said.Said.{Said}
 use Rattle.number_text.specs.declared.said.Said.TheVariants as said
 use Rattle.number_text.specs.Said.{said_of}

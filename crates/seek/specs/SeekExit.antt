@@ -15,12 +15,12 @@ use Rattle.knot_ports.specs.Sink.{AppendsFront}
 use Rattle.seek_core.specs.Answers.{WritesDecision}
 use Rattle.seek_core.specs.Parts.{joined}
 use Rattle.seek_words.specs.declared.asked.Asked.{Asked}
-use Rattle.knot_words.specs.Numbers.{texts_of}
-use Rattle.seek_words.specs.Words.{Asks, AsksNothing, AskForText}
+use Rattle.knot_words.specs.OptionNumbers.{texts_of}
+use Rattle.seek_words.specs.Words.{AsksOfSeek, AsksNothingOfSeek, AskForText}
 use Rattle.seek_parts.specs.declared.fault.PartFault.{PartFault}
 use Rattle.seek_parts.specs.Parts.{Told, ArePartsOf, all_due}
 use Rattle.seek_parts.specs.Clash.{FilesAt, Clashes, IsOutUnread}
-use Rattle.seek_parts.specs.Fault.{IsFaultOf, fault_status}
+use Rattle.seek_parts.specs.Fault.{IsPartFaultOf, fault_status}
 use Rattle.evidence_core.specs.declared.blocks.Block.{Block}
 use Rattle.seek.specs.declared.failure.Failure.{Failure}
 use Rattle.seek.specs.declared.outlets.Outlets.{Outlets}
@@ -28,11 +28,11 @@ use Rattle.knot_ports.specs.declared.given.NoWords.{NoWords}
 use Rattle.knot_ports.specs.Given.{status_without_words}
 use Rattle.seek.specs.Failure.{failure_status}
 use Rattle.seek.specs.Blocks.{AreBlocksOf, IsBlocksFailure}
-use Rattle.seek.specs.Search.{Held, port_held, IsSoughtToSink, PutsDecision, IsSoughtToFile}
+use Rattle.seek.specs.Search.{HeldBySink, port_held, IsSoughtToSink, PutsDecision, IsSoughtToFile}
 
 -- what a call may change, as far as it is told: what the lent output holds, with its count of faults, and what stands at each path
 pub record Outside : Type 0 where
-  pub output : Held
+  pub output : HeldBySink
   pub files : Option Standing
 
 -- what outlets come to, by what tells what stands at each path, and what tells what a writer holds
@@ -52,11 +52,11 @@ abbrev pub told_of : {F : Type 0} → (F → Told) → (F → FilesAt) → F →
 told_of bytes_of at_of files = record { bytes = bytes_of files; at = at_of files }
 
 -- a sink holds what it held, as far as that is told, and counted no fault
-pub record IsKept (old new : Held) : Type 0 where
+pub record IsKept (old new : HeldBySink) : Type 0 where
   pub bytes : Keeps old.bytes new.bytes
   pub faults : new.faults ≡ old.faults
 
-pub record IsUntouched (old new : Outside) : Type 0 where
+pub record IsOutsideUntouched (old new : Outside) : Type 0 where
   pub output : IsKept old.output new.output
   pub files : new.files ≡ old.files
 
@@ -80,7 +80,7 @@ pub record EndsWithoutBlocks (told : Told) (asked : Asked) (old new : Outside) (
   pub failure : Failure
   pub is : IsBlocksFailure told asked.weights.items failure
   pub status_is : s ≡ failure_status failure
-  pub untouched : IsUntouched old new
+  pub untouched : IsOutsideUntouched old new
 
 -- on the parts of what is asked a verdict was sought
 pub record EndsSought (told : Told) (asked : Asked) (old new : Outside) (s : Status) : Type 0 where
@@ -91,9 +91,9 @@ pub record EndsSought (told : Told) (asked : Asked) (old new : Outside) (s : Sta
 -- a part of what is asked can't be had
 pub record EndsUnread (told : Told) (asked : Asked) (old new : Outside) (s : Status) : Type 0 where
   pub fault : PartFault
-  pub is : IsFaultOf told (all_due asked) fault
+  pub is : IsPartFaultOf told (all_due asked) fault
   pub status_is : s ≡ fault_status fault
-  pub untouched : IsUntouched old new
+  pub untouched : IsOutsideUntouched old new
 
 -- what is read is had or not, and a verdict on it was sought where it is
 abbrev pub EndsBy : Told → Asked → Outside → Outside → Status → Type 0
@@ -104,7 +104,7 @@ EndsBy told asked old new s =
 pub record EndsClashing (at : FilesAt) (asked : Asked) (old new : Outside) (s : Status) : Type 0 where
   pub clash : Clashes at asked
   pub status_is : s ≡ status.Usage
-  pub untouched : IsUntouched old new
+  pub untouched : IsOutsideUntouched old new
 
 -- it is another one than those that are read
 pub record EndsApart (files : FilesTold) (asked : Asked) (old new : Outside) (s : Status) : Type 0 where
@@ -119,7 +119,7 @@ EndsDoing files asked old new s = EndsApart files asked old new s ⊎ EndsClashi
 -- the words ask for this, and the call ends as one that does it
 pub record EndsAsked (files : FilesTold) (words : List Text) (old new : Outside) (s : Status) : Type 0 where
   pub asked : Asked
-  pub asks : Asks words asked
+  pub asks : AsksOfSeek words asked
   pub ends : EndsDoing files asked old new s
 
 -- a text was written to the output, whole, or a front of it where the status is that of a writer that failed; no file was put
@@ -139,14 +139,14 @@ pub record EndsShown (words : List Text) (old new : Outside) (s : Status) : Type
 -- the words ask for nothing that can be done, or memory was wanting for them
 pub record EndsRefused (words : List Text) (old new : Outside) (s : Status) : Type 0 where
   pub status_is : (s ≡ status.Usage) ⊎ (s ≡ status.OutOfMemory)
-  pub nothing : s ≡ status.Usage → AsksNothing words
-  pub untouched : IsUntouched old new
+  pub nothing : s ≡ status.Usage → AsksNothingOfSeek words
+  pub untouched : IsOutsideUntouched old new
 
 abbrev pub EndsCall : FilesTold → List Text → Outside → Outside → Status → Type 0
 EndsCall files words old new s = EndsAsked files words old new s ⊎ (EndsShown words old new s ⊎ EndsRefused words old new s)
 
 -- the exit status is the number of a status by which such a call ends
-pub record IsExitOf (files : FilesTold) (words : List Text) (old new : Outside) (exit : ExitCode) : Type 0 where
+pub record IsExitOfSeek (files : FilesTold) (words : List Text) (old new : Outside) (exit : ExitCode) : Type 0 where
   pub ended : Status
   pub number : exit_status exit ≡ status_number ended
   pub ends : EndsCall files words old new ended
@@ -159,9 +159,9 @@ IsWrittenTo None bytes old new = WritesDecision bytes old.output.bytes new.outpu
 IsWrittenTo (Some path) bytes old new = PutsDecision bytes old.files new.files path.now
 
 -- the words are answered by a decision on the parts of what they ask
-pub record IsAnswered (told : Told) (words : List Text) (old new : Outside) : Type 0 where
+pub record IsAnsweredByDecision (told : Told) (words : List Text) (old new : Outside) : Type 0 where
   pub asked : Asked
-  pub asks : Asks words asked
+  pub asks : AsksOfSeek words asked
   pub parts : List (List ℕ)
   pub are : ArePartsOf told (all_due asked) parts
   pub written : IsWrittenTo asked.out (joined parts) old new
@@ -174,6 +174,6 @@ came (Ok words) = Ok (texts_of words.items)
 came (Err why) = Err why
 
 -- the words came and the program ended as a call of them, or none did
-abbrev pub EndsProgram : FilesTold → Result (List Text) NoWords → Outside → Outside → ExitCode → Type 0
-EndsProgram files (Ok words) old new exit = IsExitOf files words old new exit
-EndsProgram files (Err why) old new exit = (exit_status exit ≡ status_without_words why) × IsUntouched old new
+abbrev pub EndsSeek : FilesTold → Result (List Text) NoWords → Outside → Outside → ExitCode → Type 0
+EndsSeek files (Ok words) old new exit = IsExitOfSeek files words old new exit
+EndsSeek files (Err why) old new exit = (exit_status exit ≡ status_without_words why) × IsOutsideUntouched old new

@@ -9,7 +9,7 @@ use Rattle.knot_words.specs.declared.job.PlainJob.TheVariants.{Check}
 use Rattle.reply_text.specs.Lines.{ruling_line}
 use Rattle.reply_text.specs.Reply.{done}
 use Rattle.plain_jobs.specs.Job.{AnswersPlainly}
-use Rattle.plain_jobs.specs.Truth.{IsTrueText}
+use Rattle.plain_jobs.specs.TextTruth.{IsTrueText}
 use Rattle.search_pool.specs.declared.finding.Finding.{Finding}
 use Rattle.search_jobs.specs.declared.reply.Reply.{Reply}
 use Rattle.knot_words.specs.declared.words.Asked.{Asked}
@@ -17,17 +17,17 @@ use Rattle.knot_words.specs.declared.job.Job.{Job}
 use Rattle.knot_words.specs.declared.job.Job.TheVariants.{Decide, Plain}
 use Rattle.knot_words.specs.Words.{Asks}
 use Rattle.knot_words.specs.Limits.{limit_of}
-use Rattle.knot_jobs.specs.Answer.{IsWithin}
+use Rattle.knot_jobs.specs.Answer.{IsNotOver}
 use Rattle.knot_ports.specs.Change.{Change}
 use Rattle.knot_jobs.specs.Call.{Call, TakesAll}
-use Rattle.knot_jobs.specs.Ending.{Ends}
+use Rattle.knot_jobs.specs.Ending.{EndsJob}
 
 -- ---- a verdict that was written
 
 -- the text behind the input is an input of `check`, which accepts it, if both together are not too long
 abbrev pub IsAcceptedByCheck : List ℕ → List ℕ → Type 0
 IsAcceptedByCheck bytes text =
-    IsWithin (limit_of (Plain Check)) (put_behind bytes text) → AnswersPlainly Check (put_behind bytes text) (done (ruling_line Accepted))
+    IsNotOver (limit_of (Plain Check)) (put_behind bytes text) → AnswersPlainly Check (put_behind bytes text) (done (ruling_line Accepted))
 
 -- the text is a decision on the bytes by a verdict, and behind them `check` accepts it
 pub record IsCheckedDecision (bytes text : List ℕ) : Type 0 where
@@ -59,5 +59,5 @@ TellsOnlyTruth call s = (asked : Asked) → Asks call.words asked → s ≡ stat
 
 -- how a call goes that has this status and keeps this search: it ends as is due, and tells only truth
 pub record Goes (call : Call) (s : Status) (kept : Option Finding) : Type 0 where
-  pub ends : Ends call s kept
+  pub ends : EndsJob call s kept
   pub truth : TellsOnlyTruth call s
