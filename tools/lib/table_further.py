@@ -9,7 +9,7 @@ from knot_workbench.knot_tables import digest
 
 
 def is_counted(listed):
-    """Whether `knot numbers` takes each quandle of a list. By larger ones `seek` alone counts, of two diagrams at once."""
+    """Whether rows are counted by a list, since each of its quandles has few colours. By larger ones `seek` counts, of two diagrams at once."""
     return all(block.order <= MAX_ORDER for block in blocks_of(listed))
 
 
