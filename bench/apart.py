@@ -11,8 +11,7 @@
 
 Two knots are told apart where rows differ for each turn of the second: as it is, mirrored, reversed, or both. The rows of a knot and of its
 mirror image are compared, both at once. An entry that is too wide tells nothing. What the table's symmetries join is the same knot, and isn't
-asked of further lists. Their rows are counted by `knot numbers`. Where a list has a quandle of more than 32 colours, which that doesn't take,
-`seek` is asked of each pair that is left, and `knot check` rules on what it finds. The programs are those of KNOT and SEEK, or those that are built.
+asked of further lists. Their rows are counted by `knot numbers`, the program of KNOT, or that which is built.
 
 By --order that block comes next which tells most a millisecond of the processor of what those before it leave: of pairs of knots, knots and
 their mirror images, and knots and their reverses. The cost is the mean of `knot numbers` over some knots, less that of a quandle of one
@@ -29,13 +28,11 @@ from concurrent.futures import ThreadPoolExecutor
 sys.path.insert(0, os.path.join(os.path.dirname(os.path.dirname(os.path.abspath(__file__))), "tools"))
 from lib.census_plan import blocks_of as plan_blocks
 from lib.table_book import Book
-from lib.table_further import is_counted, labels_of, rows_by, told_by
+from lib.table_further import labels_of, rows_by
 from knot_workbench import use
-from knot_workbench.diagrams import grid_text
 from knot_workbench.knot_rows import blocks_of, may_be_one, opposite, row_of, text_of
-from knot_workbench.knot_tables import BOTH, MIRRORED, REVERSED, SAME, TURNS, KnotTable, default_table, digest, text_in
+from knot_workbench.knot_tables import BOTH, MIRRORED, REVERSED, SAME, TURNS, KnotTable, default_table, text_in
 from measure import PROGRAM
-from seek import SEEK
 
 # Two knots that aren't told apart, the second after a turn; or a knot and itself after one.
 Left = collections.namedtuple("Left", "one other turn")
@@ -88,26 +85,9 @@ def left_by(rows):
 def left_by_list(known, left, path, each, book):
     """What a further list leaves of what is left."""
     listed = text_in(path)
-    if is_counted(listed):
-        due = sorted({name for one in left for name in one[:2]}, key=list(known.knots).index)
-        rows = Rows(blocks_of(listed), rows_by(known, due, listed, each, book))
-        return [one for one in left if rows.may_be(one)]
-
-    def grids(one):
-        return known.knots[one.one].grid, one.turn.of(known.knots[one.other].grid)
-
-    def told(one):
-        first, second = grids(one)
-        return told_by(first, second, path) is not None or told_by(first.mirror(), second.mirror(), path) is not None
-
-    places = {one: " ".join(map(digest, (listed, *map(grid_text, grids(one))))) for one in left}
-    found = {one: book.lines[places[one]] == ["told"] for one in left if book and places[one] in book.lines}
-    due = [one for one in left if one not in found]
-    for one, is_told in zip(due, each(due, told)):
-        found[one] = is_told
-        if book:
-            book.add(places[one], "told" if is_told else "open")
-    return [one for one in left if not found[one]]
+    due = sorted({name for one in left for name in one[:2]}, key=list(known.knots).index)
+    rows = Rows(blocks_of(listed), rows_by(known, due, listed, each, book))
+    return [one for one in left if rows.may_be(one)]
 
 
 def classes_of(names, left):
@@ -225,12 +205,10 @@ def main():
     words.add_argument("--order", action="store_true")
     words.add_argument("--processes", type=int, default=os.cpu_count() or 1)
     asked = words.parse_args()
-    use(knot=os.environ.get("KNOT") or PROGRAM, seek=os.environ.get("SEEK") or SEEK)
+    use(knot=os.environ.get("KNOT") or PROGRAM)
     began = time.perf_counter()
     known, book = KnotTable(asked.table), Book(asked.book) if asked.book else None
     if asked.order:
-        if not all(is_counted(text_in(path)) for path in asked.lists):
-            words.error("--order takes lists of quandles of at most 32 colours")
         say_order(known, {path: text_in(path) for path in asked.lists}, asked, book)
         return
     names = list(known.knots)

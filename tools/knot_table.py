@@ -34,7 +34,7 @@ from lib.census_plan import blocks_of as plan_blocks
 from lib.connected import is_connected
 from lib.identify_programs import add_program_words, use_programs
 from lib.table_book import Book
-from lib.table_further import is_counted, labels_of, rows_by, told_by
+from lib.table_further import labels_of, rows_by
 from lib.whole_files import write_whole
 from knot_workbench import Certificate, Fault, seek
 from knot_workbench.code_grids import Grids
@@ -209,13 +209,9 @@ def symmetry(path, asked, work):
     mirrors = (MIRROR, MIRROR_REVERSE)
     for file, columns in [*((file, mirrors) for file in asked.mirrors), *((file, ALL) for file in asked.further)]:
         listed = text_in(file)
-        labels = labels_of(listed, file)
-        if is_counted(listed):
-            found.by_rows(labels, rows_by(found.known, found.open_names(columns), listed, work.each, found.book), file)
-        else:
-            found.try_all(f"pairs by {file}", effort_of(file, listed, labels), columns, work)
+        found.by_rows(labels_of(listed, file), rows_by(found.known, found.open_names(columns), listed, work.each, found.book), file)
     for seed, steps in ROUNDS[:asked.rounds]:
-        effort = Effort(f"{seed} {steps}", lambda *grids: walked(*grids, seed, steps), symmetry_text)
+        effort = Effort(f"{seed} {steps}", lambda *grids: walked(*grids, seed, steps))
         found.try_all(f"walks of {steps} steps", effort, asked.walk or ALL, work)
     found.put()
     for row in found.rows.values():
@@ -225,9 +221,8 @@ def symmetry(path, asked, work):
         calls.note(f"{path}: {kind}: {count}")
 
 
-# What may show a symmetry: its name in the book, what it finds of two grids, a certificate that the checker accepted or None, and what stands in
-# the table of that.
-Effort = collections.namedtuple("Effort", "mark find text")
+# What may show a symmetry: its name in the book, and what it finds of two grids, a certificate that the checker accepted or None.
+Effort = collections.namedtuple("Effort", "mark find")
 
 
 def walked(first, second, seed, steps):
@@ -238,14 +233,6 @@ def walked(first, second, seed, steps):
     found = Certificate(first, second, verdict)
     found.check()
     return found
-
-
-def effort_of(file, listed, labels):
-    """What a list's file tells of two grids."""
-    def text(found):
-        return f"different by {labels[0]}" if found and len(labels) == 1 else symmetry_text(found)
-
-    return Effort(digest(listed), lambda first, second: told_by(first, second, file), text)
 
 
 ALL = MIRROR, REVERSE, MIRROR_REVERSE = tuple(column for column, _ in SYMMETRIES)
@@ -324,7 +311,7 @@ class Symmetries:
                 if before is None or (self.asked.certificates and before != ["open"]):
                     certificate = effort.find(grid, turn.of(grid))
                     kept(self.asked, f"{name}-{column}", certificate)
-                    before = [effort.text(certificate)]
+                    before = [symmetry_text(certificate)]
                 found[column] = before[0]
                 self.take(row, column, before[0])
         return found

@@ -327,7 +327,8 @@ def parts_of(name):
 def text_of(name):
     """The whole file of one of these names."""
     said, lines = parts_of(name)
-    use = "seek takes it by --weights." if name in (*LARGER, *LARGER_CLASSES) else f"Append it to two diagrams: cat problem.txt quandles/weights/{name}.txt | ./knot weights"
+    is_for_seek = name in (*LARGER, *LARGER_CLASSES) or not ("\nweight " in lines or "\nshadow " in lines)
+    use = "seek takes it by --weights." if is_for_seek else f"Append it to two diagrams: cat problem.txt quandles/weights/{name}.txt | ./knot weights"
     return f"{said}# Made by tools/weight_tables.py. {use}\n{lines}"
 
 

@@ -5,7 +5,7 @@ import unittest
 
 from common import ROOT, read
 
-HEADING = "## What turns each clause\n"
+HEADING = "## What breaks each clause\n"
 # A crate, and its edits behind it.
 NAMED = re.compile(r"(\w+) ((?:`\w+`(?:, )?)+)")
 

@@ -16,7 +16,7 @@ from lib.table_keys import after, form_of, grid_of_form, shifts_between
 from lib.table_linear import block_between, block_text
 from lib.table_reduced import Reducer, short_place
 from lib.table_shadows import KNOWN, faces, is_one_curve, least, maps_to, shadows_to
-from lib.table_worker import Worker
+from lib.table_worker import SHORTEST, Worker
 from knot_workbench.diagrams import Braid, Grid, closure
 from knot_workbench.faults import Fault
 from knot_workbench.identifying import components_of
@@ -305,7 +305,28 @@ class NoSearch(Worker):
         return self.aims[parts]
 
 
+class Answering(Worker):
+    """A worker whose programs answer a search by its words with moves, or find nothing."""
+
+    def __init__(self, answers):
+        self.knot, self.seek, self.answers, self.asked = "knot", "seek", answers, []
+
+    def answered(self, path, words, text, also=()):
+        self.asked.append(words)
+        moves = next((moves for mark, moves in self.answers.items() if mark in words), None)
+        return (1, "unknown budget 1\n") if moves is None else (0, f"equal {len(moves)}\n" + "".join(f"{move}\n" for move in moves))
+
+
 class WorkerTest(unittest.TestCase):
+    def test_the_shortest_list_is_taken_of_searches_behind_one_that_joined_a_pair(self):
+        pair, aim = Pair(b"key", b"aim", SAME), made(TREFOIL, ("shift", "rows", 1))
+        three, one = ["shift rows 3", "shift rows 2", "shift rows 1"], ["shift rows 1"]
+        for answers, found, count in (({"--seed=1": three, "--seed=3": one, "decide": three}, (("shift", "rows", 1),), 4),
+                                      ({"--seed=1": one, "decide": three}, (("shift", "rows", 1),), 4), ({"--seed=2": one}, None, 1)):
+            worker = Answering(answers)
+            self.assertEqual(worker.join((pair, TREFOIL, aim, SHORTEST[0])), (pair, found))
+            self.assertEqual(len(worker.asked), count)
+
     def test_a_class_has_the_name_of_a_diagram_that_leads_to_one_of_its_keys(self):
         eight = (("8_20", TURNS[1]),)
         aim, other = closure(Braid(3, [1, 1, 1, -2, -1, -1, -1, -2]))[0], TREFOIL

@@ -74,9 +74,9 @@ def parser():
     words.add_argument("--stages", metavar="FILE", help="the stages (default: stages.txt beside this script for decide, else one without options)")
     words.add_argument("--no-seek", action="store_true", help="leave out the stages that ask seek, if that isn't built")
     words.add_argument("--processes", type=int, metavar="N",
-                       help="how many at once (default: as many as there are processors); with --hosts the file says it")
+                       help="how many at once (default: as many as there are processors, with --hosts as the file says)")
     words.add_argument("--with", dest="runs", choices=("auto", "parallel", "python"), default="auto",
-                       help="GNU parallel, or this script's own processes (default: its own, which cost a fifteenth; with --hosts GNU parallel)")
+                       help="GNU parallel, or this script's own processes (default: its own, which are faster; with --hosts GNU parallel)")
     words.add_argument("--hosts", metavar="FILE", help="GNU parallel's file of ssh logins; the hosts must see the same folders")
     words.add_argument("--part", metavar="K/N", help="only part K of N, as in an array job; no summary, nothing is checked")
     words.add_argument("--again", action="store_true", help="forget the answers that are there")

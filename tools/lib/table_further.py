@@ -1,25 +1,10 @@
-"""What further lists of quandles tell of knots of a table: rows of numbers, as they stand in a book, or counted; or of two diagrams evidence."""
+"""What further lists of quandles tell of knots of a table: rows of numbers, as they stand in a book, or counted."""
 import os
 
 from lib.census_plan import blocks_of as plan_blocks
-from knot_workbench import seek
-from knot_workbench.diagrams import MAX_ORDER, diagram_text
+from knot_workbench.diagrams import diagram_text
 from knot_workbench.knot_rows import blocks_of, row_in, row_of, text_of
 from knot_workbench.knot_tables import digest
-
-
-def is_counted(listed):
-    """Whether rows are counted by a list, since each of its quandles has few colours. By larger ones `seek` counts, of two diagrams at once."""
-    return all(block.order <= MAX_ORDER for block in blocks_of(listed))
-
-
-def told_by(first, second, file):
-    """What tells two diagrams apart by a list's file alone, without a walk: a certificate that the checker accepted, or None."""
-    # The quandle of one colour takes the place of those that seek tries before.
-    found = seek(first, second, ["trivial 1"], weights=[file], steps=0)
-    if found is not None:
-        found.check()
-    return found
 
 
 def rows_by(known, names, listed, each, book=None):

@@ -148,7 +148,7 @@ class Joins:
         its symmetries. No walk is tried between two knots whose Alexander polynomials differ."""
         for words in efforts:
             keys = [key for key in bucket if key not in self.above]
-            is_walk = len(keys) > 1 and (words[0] == "decide" or "--no-weights" in words)
+            is_walk = len(keys) > 1 and (words[0] in ("decide", "shortest") or "--no-weights" in words)
             groups, chains = collections.defaultdict(list), {}
             for key in keys:
                 aims = groups[self.alexander(key) if is_walk else None]

@@ -38,6 +38,9 @@ BRAIDS = 4
 DECIDE = ("decide", "--spare=1", "--budget=20000")
 WALKS = tuple(("--no-weights", f"--seed={seed}", f"--steps={steps}") for seed, steps in ((1, 100_000), (2, 1_000_000)))
 
+# Short walks of other seeds and a search in order behind a walk that has joined a pair: the shortest list of moves is taken.
+SHORTEST = tuple(("shortest", *(("--no-weights", f"--seed={seed}", f"--steps={steps}") for seed in (1, 2, 3)), DECIDE) for steps in (20_000, 100_000))
+
 # In place of a search: numbers of colourings by a linear quandle that the Alexander polynomials name.
 LINEAR = ("linear",)
 
@@ -214,10 +217,14 @@ class Worker:
 
     def join(self, asked):
         """What a search finds of two grids: moves, the text of what tells them apart, or None. Its words are those of `seek`, or `decide` and
-        those of this job, or LINEAR."""
+        those of this job, or LINEAR, or `shortest` and those of several searches, of which the others are tried where the first finds moves."""
         pair, first, second, words = asked
         if first == second:
             return pair, ()
+        if words[0] == "shortest":
+            _, found = self.join((pair, first, second, words[1]))
+            others = [self.join((pair, first, second, other))[1] for other in words[2:]] if isinstance(found, tuple) else []
+            return pair, min([found, *(other for other in others if isinstance(other, tuple))], key=len) if others else found
         if words == LINEAR:
             return pair, self.linear(first, second)
         text = first.text + second.text

@@ -21,7 +21,7 @@ from lib.table_pool import Pool
 from lib.table_sorting import Sorting
 from lib.table_standing import classes_of
 from lib.table_telling import Telling
-from lib.table_worker import DECIDE, LINEAR, WALKS
+from lib.table_worker import DECIDE, LINEAR, SHORTEST, WALKS
 from lib.table_written import table_text
 from lib.whole_files import sweep_parts, write_whole
 
@@ -50,8 +50,8 @@ exit status:
 # The parts of the work, as they are told.
 PARTS = 10
 
-# The searches, one after the other: walks join most keys, and so they come before what is tried between all that is left.
-EFFORTS = (WALKS[0], LINEAR, DECIDE, *WALKS[1:])
+# The searches, one after the other: short walks join most keys, and so they come before what is tried between all that is left.
+EFFORTS = (*SHORTEST, LINEAR, DECIDE, *WALKS[1:])
 
 # Files of the folder quandles/weights by which pairs are counted that are still open, beside those of the larger quandles.
 FURTHER = ("F8.txt", "F27.txt", "F27b.txt", "H27.txt", "A28.txt")
