@@ -141,10 +141,17 @@ class Plan:
                  if name not in self.done and name not in running and self.tree.below[name] <= self.done]
         return sorted(found, key=lambda name: -self.chains[name])
 
-    def jobs(self, ready, busy):
-        """How many processors the first of so many ready crates gets, beside those that are busy."""
+    def jobs(self, name, ready, busy):
+        """How many processors a crate gets, the first of so many that are ready, beside those that are busy: an equal share, and two
+        at least where the whole build waits for the chain of crates that begins with it."""
         free = max(self.processors - busy, 1)
-        return -(-free // max(ready, 1))
+        return max(-(-free // max(ready, 1)), min(free, 2) if self.is_awaited(name) else 1)
+
+    def is_awaited(self, name):
+        """Whether no chain of crates is longer than this one's, and the other crates are done before it is."""
+        left = [other for other in self.names if other not in self.done]
+        return (self.chains[name] >= max(self.chains[other] for other in left)
+                and self.chains[name] > sum(self.left.get(other, 0.0) for other in left) / self.processors)
 
     def ahead(self, running=()):
         """How many seconds are left, by what the crates cost; of a crate that is being built a fourth at least."""
@@ -369,8 +376,10 @@ class Build:
                 ready = plan.ready(running)
                 while ready and free:
                     busy = sum(run.jobs for run in running.values())
+                    if running and busy >= plan.processors:
+                        break
                     name = ready.pop(0)
-                    jobs = plan.jobs(min(len(ready) + 1, len(free)), busy)
+                    jobs = plan.jobs(name, min(len(ready) + 1, len(free)), busy)
                     running[name] = Run(free.pop(), name, jobs, os.path.join(self.place, f"{name}.log"), self.held)
                 time.sleep(0.05)
                 self.trial.tell()
