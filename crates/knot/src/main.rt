@@ -9,6 +9,7 @@ use crate::program::program;
 use crate::tell::Terminal;
 use knot_jobs::Ports;
 use knot_ports::{MAX_INPUT, NoWords, StdSink, StdSource, on_stack, system_words};
+use std::io::IsTerminal;
 use std::process::ExitCode;
 
 /// How many bytes of the input are kept, to say why a line of it is bad. Evidence goes further, and its lines are told without a reason.
@@ -27,7 +28,12 @@ fn main(rt: HostRuntime) -> ExitCode {
                 sink: StdSink::new(rt.stdout()),
                 kept: None,
             },
-            &Terminal::new(&rt),
+            &Terminal {
+                rt: &rt,
+                alloc: rt.alloc(),
+                is_read: rt.stdin().is_terminal(),
+                is_written: rt.stderr().is_terminal(),
+            },
         )
     })
     .unwrap_or(NoWords::Memory.exit_code())

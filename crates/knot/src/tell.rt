@@ -3,7 +3,9 @@
 use knot_jobs::Status;
 use knot_ports::{NoWords, StdSink, StdSource};
 use knot_tells::{reading, sentence_of};
-use std::io::{IsTerminal, Read, Write};
+use std::alloc::Global;
+use std::fs::Files;
+use std::io::{Read, Write};
 
 /// Tells whoever called what no answer says.
 pub(crate) trait Tell {
@@ -23,28 +25,20 @@ pub(crate) trait Tell {
     fn tell_no_words(&self, why: &NoWords);
 }
 
-/// Standard error, on which nothing is told but where it is a terminal.
+/// Standard error, on which nothing is told but where it is a terminal, and the files, to see whether a word names one.
 #[derive(Drop)]
-pub(crate) struct Terminal<'a> {
-    rt: &'a HostRuntime,
-    is_read: bool,
-    is_written: bool,
+pub(crate) struct Terminal<'a, T> {
+    pub(crate) rt: &'a T,
+    pub(crate) alloc: Global,
+    /// Whether standard input is a terminal.
+    pub(crate) is_read: bool,
+    /// Whether standard error is one.
+    pub(crate) is_written: bool,
 }
 
-impl<'a> Terminal<'a> {
-    /// The standard error of a runtime.
-    pub(crate) fn new(rt: &'a HostRuntime) -> Terminal<'a> {
-        Terminal {
-            rt,
-            is_read: rt.stdin().is_terminal(),
-            is_written: rt.stderr().is_terminal(),
-        }
-    }
-}
-
-impl<'a> Tell for Terminal<'a> {
+impl<'a, T: Eprint + Files> Tell for Terminal<'a, T> {
     fn tell_reading(&self, words: &[String]) {
-        if self.is_read && self.is_written && reading(self.rt.alloc(), words).is_some() {
+        if self.is_read && self.is_written && reading(self.alloc, words).is_some() {
             let _told = eprintln!(self.rt; "knot: standard input is read, up to its end (Ctrl-D)");
         }
     }
@@ -59,7 +53,7 @@ impl<'a> Tell for Terminal<'a> {
         if !self.is_written {
             return;
         }
-        if let Some(sentence) = sentence_of(self.rt, self.rt.alloc(), words, status, source, sink) {
+        if let Some(sentence) = sentence_of(self.rt, self.alloc, words, status, source, sink) {
             let _told = eprintln!(self.rt; "knot: {sentence}");
         }
     }

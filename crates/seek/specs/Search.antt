@@ -21,7 +21,7 @@ pub record HeldBySink : Type 0 where
 abbrev pub held_of : {X : Type 0} → (X → Option (List ℕ)) → (X → ℕ) → X → HeldBySink
 held_of bytes_of faults_of sink = record { bytes = bytes_of sink; faults = faults_of sink }
 
--- the same of a sink over a writer, by what tells the bytes that a writer holds
+-- what a sink over a writer comes to, by what tells the bytes that a writer holds
 abbrev pub port_held : {X : Type 0} → (X → Option (List ℕ)) → Counted X → HeldBySink
 port_held bytes_of sink = record { bytes = bytes_of sink.port; faults = sink.errors }
 

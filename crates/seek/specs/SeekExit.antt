@@ -122,14 +122,18 @@ pub record EndsAsked (files : FilesTold) (words : List Text) (old new : Outside)
   pub asks : AsksOfSeek words asked
   pub ends : EndsDoing files asked old new s
 
--- a text was written to the output, whole, or a front of it where the status is that of a writer that failed; no file was put
-pub record IsShownTo (old new : Outside) (s : Status) : Type 0 where
+-- this text was written to the output, whole, or a front of it where the status is that of a writer that failed; no file was put
+pub record IsShown (text : List ℕ) (old new : Outside) (s : Status) : Type 0 where
   pub status_is : (s ≡ status.Done) ⊎ (s ≡ status.WriteFault)
-  pub text : List ℕ
   pub whole : s ≡ status.Done → Appends old.output.bytes new.output.bytes text
   pub front : s ≡ status.WriteFault → AppendsFront old.output.bytes new.output.bytes text
   pub fault : s ≡ status.WriteFault → Rose old.output.faults new.output.faults
   pub files : new.files ≡ old.files
+
+-- some text was, or a front of it
+pub record IsShownTo (old new : Outside) (s : Status) : Type 0 where
+  pub text : List ℕ
+  pub shown : IsShown text old new s
 
 -- the words ask for the help or the version
 pub record EndsShown (words : List Text) (old new : Outside) (s : Status) : Type 0 where

@@ -7,7 +7,7 @@ ghost use Rattle.clap.specs.declared.error.kind.ErrorKind.TheVariants as kind;
 ghost use Rattle.knot_ports.specs.declared.status.Status.TheVariants as status;
 ghost use Rattle.knot_words.specs.OptionNumbers.{texts_of};
 ghost use Rattle.seek_words.specs.Words.{IsHelpOrVersion, AskForText};
-ghost use Rattle.seek.specs.SeekExit.{outside_of, told_of, EndsBy, EndsDoing, IsShownTo, EndsCall, IsExitOfSeek, IsAnsweredByDecision};
+ghost use Rattle.seek.specs.SeekExit.{outside_of, told_of, EndsBy, EndsDoing, IsShown, IsShownTo, EndsCall, IsExitOfSeek, IsAnsweredByDecision};
 
 use crate::failure::{Failure, OUTPUT, file_name};
 use crate::inputs::read_inputs;
@@ -43,7 +43,7 @@ pub(crate) fn call<R: Threads + Sync + Eprint + Clock, F: Texts, P: Places, W: W
     answer(rt, alloc, terminals, words, files, outlets).exit_code()
 }
 
-/// The same: the status. Words that are refused are answered by `clap`, as is a request for help.
+/// Does what the words of a command line ask for, and says the status. Words that are refused are answered by `clap`, as is a request for help.
 fn answer<R: Threads + Sync + Eprint + Clock, F: Texts, P: Places, W: Write + Drop>(
     rt: &R,
     alloc: Global,
@@ -112,7 +112,7 @@ fn show_text<R: Eprint, P: Places, W: Write + Drop>(
     text: &[u8],
     outlets: &mut Outlets<P, W>,
 ) -> Status
-    ensures { IsShownTo (outside_of P.standing W.contents outlets.old) (outside_of P.standing W.contents outlets.new) result }
+    ensures { IsShown text.now (outside_of P.standing W.contents outlets.old) (outside_of P.standing W.contents outlets.new) result }
 {
     match give_all(&mut outlets.output, text) {
         Ok(()) => Status::Done,
