@@ -25,6 +25,7 @@ A file has a subject, and is read by people. A row is a name, a call, and parts.
         malformed line 3
 
   input                     standard input; without it there is none
+  typed input               standard input is a terminal, at which this text is typed, and then its end
   unreadable input          standard input is a folder, so that each read fails
   input is NAME             standard input is this file, which lies where the call is made
   word WORD                 one word more, with escapes as within lines
@@ -50,6 +51,9 @@ A file has a subject, and is read by people. A row is a name, a call, and parts.
   piped NAME                the call writes into this pipe what begins so
   linked NAME               a symbolic link of this name is there still
   unwritten NAME            no file of this name stands where the call is made
+  nothing beside            no other file stands there than those of the row and those that are written
+  mode MODE of NAME         this file has this mode before the call and behind it
+  again                     the same call has the same status once more, and writes the same
   cut at each byte          of each front of the input: it is malformed, or answered likewise where only the last line feed is gone
   altered at each byte      of the input with a byte 1 in each place: its line is malformed
 
@@ -59,7 +63,7 @@ Each line of a part ends with a line feed, but where it ends with a backslash. W
 \\{alexander MAX_ORDER + 1 by 2} for the lines of the table of such a quandle.
 The constants are those of the crates. Lines that begin with # are remarks, and empty lines between parts say nothing.
 
-Each difference is printed, and last a line with the counts. There are some 3,900 calls.
+Each difference is printed, and last a line with the counts. There are some 4,500 calls.
 
 exit status:
   0  each row has what it must
@@ -67,12 +71,14 @@ exit status:
   2  the words are no call, a row is none, or a program is wanting; nothing was tried
 """
 import argparse
+import contextlib
 import functools
 import itertools
 import os
 import re
 import resource
 import shlex
+import stat
 import subprocess
 import sys
 import tempfile
@@ -94,11 +100,12 @@ MARGIN = "    "
 ONE_BYTE = {"\\": b"\\", "t": b"\t", "r": b"\r", "n": b"\n", "0": b"\0"}
 ESCAPE = re.compile(r"\\(?:\{(?P<sum>[^}]*)\}|x(?P<byte>[0-9a-f]{2})|(?P<one>.))")
 NUMBER = re.compile(r"(?P<front>\w+)(?: (?P<sign>[+-]) (?P<rest>[0-9]+))?")
-PART = re.compile(r"input|unreadable input|full output|input is (?P<input>\S+)|output to (?P<output>\S+)|word (?P<word>.+)|file (?P<file>\S+)|each of"
+PART = re.compile(r"input|typed input|unreadable input|full output|input is (?P<input>\S+)|output to (?P<output>\S+)|word (?P<word>.+)|file (?P<file>\S+)|each of"
                   r"|link (?P<link>\S+ to \S+)|pipe (?P<pipe>\S+)|memory (?P<memory>[0-9]+)"
                   r"|(?:answer|front) (?P<status>[0-9]+)|error|taken|whole|accepted behind it"
                   r"|(?:simplified to|equal within|drawn in) (?P<columns>[0-9]+) columns|lists of (?P<lists>[0-9]+(?: [0-9]+)*)"
-                  r"|(?:(?:un)?written|accepted in|piped|linked) (?P<written>\S+)|(?:cut|altered) at each byte")
+                  r"|(?:(?:un)?written|accepted in|piped|linked) (?P<written>\S+)|(?:cut|altered) at each byte"
+                  r"|nothing beside|mode (?P<mode>[0-7]+) of (?P<moded>\S+)|again")
 
 
 class RowError(Exception):
@@ -119,6 +126,8 @@ class Case:
     memory: int = None
     is_full: bool = False
     output: str = None
+    is_typed: bool = False
+    modes: dict = field(default_factory=dict)
 
 
 @dataclass
@@ -235,7 +244,7 @@ def detail_of(part):
     """What the line of a part tells beside its words: the name of a file, numbers of lines, or a number."""
     if part["lists"]:
         return [int(count) for count in part["lists"].split()]
-    return part["written"] or int(part["status"] or part["columns"] or 0)
+    return part["written"] or part["moded"] or int(part["status"] or part["columns"] or 0)
 
 
 def cases_of(name, blocks, known):
@@ -251,8 +260,8 @@ def cases_of(name, blocks, known):
         if line == "each of":
             made += filled(frame, group, len(made), known)
             frame.wanted, group = [], lines
-        elif line == "input":
-            frame.given = lines
+        elif line in ("input", "typed input"):
+            frame.given, frame.is_typed = lines, line != "input"
         elif line == "unreadable input":
             frame.given = None
         elif line == "full output":
@@ -273,6 +282,8 @@ def cases_of(name, blocks, known):
         elif part["memory"]:
             frame.memory = int(part["memory"])
         else:
+            if part["mode"]:
+                frame.modes[part["moded"]] = int(part["mode"], 8)
             frame.wanted.append((line.split()[0], detail_of(part), text_of(lines, known)))
     if not made:
         raise RowError(f"{name}: nothing is expected")
@@ -300,7 +311,7 @@ def one_case(frame, other, place, known):
     given = None if frame.given is None else put(frame.given)
     name = frame.name if other is None else f"{frame.name}, {place}: {other}"
     return Case(name, frame.words, given, {path: put(lines) for path, lines in frame.files.items()}, frame.wanted, frame.input, frame.links,
-                {path: put(lines) for path, lines in frame.pipes.items()}, frame.memory, frame.is_full, frame.output)
+                {path: put(lines) for path, lines in frame.pipes.items()}, frame.memory, frame.is_full, frame.output, frame.is_typed, frame.modes)
 
 
 def all_cases(names):
@@ -420,6 +431,20 @@ class Runner:
                                   timeout=PATIENCE, check=False)
         return Ended(done.returncode, b"", done.stderr, folder)
 
+    def call_typed(self, case, folder):
+        """A call at a terminal."""
+        next(self.counter)
+        with terminals.typed(case.given) as terminal:
+            done = subprocess.run([self.programs[case.words[0]], *case.words[1:]], stdin=terminal, capture_output=True, cwd=folder, timeout=PATIENCE,
+                                  check=False)
+        return Ended(done.returncode, done.stdout, done.stderr, folder)
+
+    def call_of(self, case, folder=None):
+        """The call of a case, in a folder of its own if it needs one."""
+        if case.output:
+            return self.call_into(case, folder)
+        return self.call_typed(case, folder) if case.is_typed else self.call(case.words, case.given, folder, case.input)
+
     def problems(self, case):
         """What differs in a case."""
         try:
@@ -428,17 +453,19 @@ class Runner:
             if case.is_full:
                 return self.differences(case, self.call_full(case))
             if not (case.files or case.links or case.pipes) and not any(isinstance(detail, str) for _, detail, _ in case.wanted):
-                return self.differences(case, self.call(case.words, case.given))
+                return self.differences(case, self.call_of(case))
             with tempfile.TemporaryDirectory(prefix="knot-rows.") as folder:
                 for name, text in case.files.items():
                     path = os.path.join(folder, name)
                     os.makedirs(os.path.dirname(path), exist_ok=True)
                     with open(path, "wb") as file:
                         file.write(text)
+                    if name in case.modes:
+                        os.chmod(path, case.modes[name])
                 for name, target in case.links.items():
                     os.symlink(target, os.path.join(folder, name))
                 with Pipes(folder, case.pipes) as pipes:
-                    ended = self.call_into(case, folder) if case.output else self.call(case.words, case.given, folder, case.input)
+                    ended = self.call_of(case, folder)
                 ended.piped = pipes.got
                 return self.differences(case, ended)
         except subprocess.TimeoutExpired:
@@ -459,7 +486,9 @@ class Runner:
         if case.words[0] != "knot":
             return [differs("standard error", ended.error, text)]
         next(self.counter)
-        status, said, told = terminals.run([self.programs["knot"], *case.words[1:]], case.given, ended.folder, PATIENCE)
+        command = [self.programs["knot"], *case.words[1:]]
+        with terminals.typed(case.given) if case.is_typed else contextlib.nullcontext(case.given) as given:
+            status, said, told = terminals.run(command, given, ended.folder, PATIENCE)
         return [differs("what a terminal gets", told, text), differs("the answer beside a terminal", (status, said), (ended.status, ended.text))]
 
     def part_taken(self, _case, ended, _number, _text):
@@ -518,6 +547,17 @@ class Runner:
 
     def part_unwritten(self, _case, ended, name, _text):
         return [f"a file {name} is written" if os.path.isfile(os.path.join(ended.folder, name)) else None]
+
+    def part_nothing(self, case, ended, _number, _text):
+        named = {*case.files, *case.links, *case.pipes, *(detail for part, detail, _ in case.wanted if part == "written")}
+        return [differs("what else stands there", sorted({*os.listdir(ended.folder)} - {name.split("/")[0] for name in named}), [])]
+
+    def part_mode(self, case, ended, name, _text):
+        return [differs(f"the mode of {name}", f"{stat.S_IMODE(os.stat(os.path.join(ended.folder, name)).st_mode):o}", f"{case.modes[name]:o}")]
+
+    def part_again(self, case, ended, _number, _text):
+        again = self.call_of(case, ended.folder)
+        return [differs("the answer of the same call", (again.status, again.text), (ended.status, ended.text))]
 
     def part_piped(self, _case, ended, name, text):
         found = ended.piped.get(name)

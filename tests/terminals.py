@@ -1,9 +1,26 @@
-"""Calls of a program whose standard error is a terminal, where a person reads it."""
+"""Calls of a program at a terminal: standard error, where a person reads it, and standard input, where one types."""
+import contextlib
 import os
 import pty
 import subprocess
+import termios
 import threading
 import tty
+
+
+@contextlib.contextmanager
+def typed(text):
+    """A terminal at which this text, of whole lines, is typed, and then its end."""
+    keys, terminal = pty.openpty()
+    try:
+        modes = termios.tcgetattr(terminal)
+        modes[3] &= ~termios.ECHO
+        termios.tcsetattr(terminal, termios.TCSANOW, modes)
+        os.write(keys, text + b"\x04")
+        yield terminal
+    finally:
+        os.close(keys)
+        os.close(terminal)
 
 
 def run(command, given, folder=None, timeout=None):

@@ -45,6 +45,20 @@ if sys.argv[1:] == ["colour"]:
 if sys.argv[1:] == ["decide"]:
     sys.stdout.write("certificate 2\\nequal 3\\nstabilise 0 x lowleft\\nshift rows 1\\ndestabilise 0 0\\n")
     sys.exit(0)
+if sys.argv[1:] == ["typed"]:
+    text = sys.stdin.read()
+    print("at a terminal" if sys.stdin.isatty() else "elsewhere", text, end="")
+    if sys.stderr.isatty():
+        print("typed", text, end="", file=sys.stderr)
+    sys.exit(0)
+if sys.argv[1:] == ["place"]:
+    print(os.getpid())
+    sys.exit(0)
+if sys.argv[1:2] == ["replace"]:
+    os.rename(sys.argv[2], "old")
+    open(sys.argv[2], "w").close()
+    os.chmod(sys.argv[2], 0o604)
+    sys.exit(0)
 if sys.argv[1:] == ["grid"]:
     sys.stdout.write("x 0 1 2\\no 1 2 0\\n")
     sys.exit(0)
@@ -190,6 +204,55 @@ some: drawn in others
 8 cases, 8 calls, 4 different
 """
 
+# Terminals, the same call again, and files beside what is written.
+BESIDE = """== at a terminal
+knot typed
+typed input
+    good
+    day
+answer 0
+    at a terminal good
+    day
+error
+    typed good
+    day
+
+== again
+knot job
+input
+    good
+again
+
+== not again
+knot place
+again
+
+== kept
+knot write made more
+file made
+    old
+mode 640 of made
+written made
+nothing beside
+
+== not kept
+knot replace made
+file made
+    old
+mode 640 of made
+written made
+nothing beside
+"""
+
+# What is said of those that fail; the second line has two numbers.
+NOT_BESIDE = r"""some: not again
+    the answer of the same call is \(0, b'[0-9]+\\n'\), and not \(0, b'[0-9]+\\n'\)
+some: not kept
+    the mode of made is '604', and not '640'
+    what else stands there is \['old'\], and not \[\]
+5 cases, 8 calls, 2 different
+"""
+
 ACCEPTED = """== good in a file
 knot job
 input
@@ -297,6 +360,11 @@ class Rows(unittest.TestCase):
 
     def test_what_a_call_writes(self):
         self.assertEqual(self.found(WRITTEN), (1, NOT_WRITTEN))
+
+    def test_terminals_and_what_stands_beside(self):
+        status, said = self.found(BESIDE)
+        self.assertEqual(status, 1)
+        self.assertRegex(said, f"^{NOT_BESIDE}$")
 
     def test_what_is_accepted_in_a_file(self):
         self.assertEqual(self.found(ACCEPTED), (1, NOT_ACCEPTED))

@@ -1,4 +1,4 @@
-//! Tests of grid_canon, grid_keys, meeting_walks, next_moves and torus_grids.
+//! Tests of meeting_walks and torus_grids.
 #![tactic(auto)]
 
 #[cfg(test)]

@@ -1,7 +1,4 @@
 //! A file a crate.
-mod canonical;
-mod keys;
-mod offers;
-mod short;
+mod shorter;
 mod torus;
 mod walks;

@@ -1,5 +1,5 @@
-//! Tests of whole calls: with a fault at each call of the source and the sink, of the searches that are kept and of how many workers are at a book at
-//! once, and of what is told beside an answer. Tests of colour_seeds, certificates and number_search.
+//! Tests of whole calls: with a fault at each call of the source and the sink, what is told of faults in the middle, and how many workers are at a
+//! book at once; and of functions that no program calls.
 #![tactic(auto)]
 
 #[cfg(test)]

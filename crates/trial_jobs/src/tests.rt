@@ -1,11 +1,9 @@
 //! Whole calls, a file for each thing that no program shows.
 mod faults;
 mod gate;
-mod kept;
 mod lines;
-mod numbers;
-mod options;
 mod told;
+mod uncalled;
 mod workers;
 
 use crate::tests::gate::Meeting;

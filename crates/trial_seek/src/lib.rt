@@ -1,4 +1,4 @@
-//! Tests of seek_core, seek_parts and seek_words.
+//! Tests of seek_core and seek_parts.
 #![tactic(auto)]
 
 #[cfg(test)]

@@ -1,6 +1,3 @@
-//! A file a crate, and two of seek_core.
-mod asked;
+//! Steps at which writing a file fails, and a write that fails.
 mod files;
-mod given;
-mod parts;
-mod sought;
+mod writes;

@@ -1,8 +1,7 @@
-//! Whole calls of which a read or a write fails, and a call over a source and a sink that keep nothing.
-use crate::tests::lines::{Outside, run_line, words_of};
-use knot_jobs::{Ports, run_alone};
-use knot_ports::{MAX_INPUT, QuietSink, QuietSource, Status};
-use std::alloc::{AllocError, Global};
+//! Whole calls of which a read or a write fails.
+use crate::tests::lines::{Outside, run_line};
+use knot_ports::Status;
+use std::alloc::Global;
 use std::test::Fail;
 
 /// The unknot, and the unknot with its rows shifted.
@@ -134,46 +133,6 @@ fn a_write_that_fails_ends_the_call(rt: HostRuntime) -> Result<(), Fail> {
         let (status, written) = run_line(rt.alloc(), line, input, &outside)?;
         assert_eq!(rt; status, ended, "call {writing} of {line}");
         assert_eq!(rt; written.as_slice(), front, "call {writing} of {line}");
-    }
-    Ok(())
-}
-
-/// A braid of one strand with a comment behind it that brings the text to this many bytes.
-fn padded(alloc: Global, size: usize) -> Result<Vec<u8>, AllocError> {
-    let mut text = Vec::with_capacity(alloc, size)?;
-    text.extend_from_slice(b"braid 1\n")?;
-    for _ in 8..size {
-        text.push(b'#')?;
-    }
-    Ok(text)
-}
-
-/// One byte over the limit comes by 262,145 calls, and the next one, which would fail, is not made.
-#[test]
-fn no_byte_is_read_past_the_first_over_the_limit(rt: HostRuntime) -> Result<(), Fail> {
-    let long = padded(rt.alloc(), MAX_INPUT + 1)?;
-    let outside = Outside {
-        reading: &[262_145],
-        writing: &[],
-        room: 100,
-    };
-    let (status, written) = run_line(rt.alloc(), "knot close", long.as_slice(), &outside)?;
-    assert_eq!(rt; status, Status::Limit);
-    assert_eq!(rt; written.as_slice(), b"limit bytes\n".as_slice());
-    Ok(())
-}
-
-#[test]
-fn a_call_ends_likewise_where_nothing_is_kept(rt: HostRuntime) -> Result<(), Fail> {
-    let words = words_of(rt.alloc(), "knot close")?;
-    for (size, ended) in [(MAX_INPUT, Status::Done), (MAX_INPUT + 1, Status::Limit)] {
-        let mut ports = Ports {
-            source: QuietSource::new(padded(rt.alloc(), size)?),
-            sink: QuietSink::new(),
-            kept: None,
-        };
-        let status = run_alone(rt.alloc(), words.as_slice(), &mut ports);
-        assert_eq!(rt; status, ended, "{size} bytes");
     }
     Ok(())
 }

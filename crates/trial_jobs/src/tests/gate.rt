@@ -32,11 +32,6 @@ impl Meeting {
         }
     }
 
-    /// A gate at which no pass waits.
-    pub(crate) fn without_waits() -> Meeting {
-        Meeting::new(u64::MAX, 0)
-    }
-
     /// How many passes saw the last one come, and how many waited in vain.
     pub(crate) fn seen(&self) -> (u64, u64) {
         (

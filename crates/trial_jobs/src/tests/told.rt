@@ -1,8 +1,8 @@
-//! What is told of streams that fail in the middle, and of answers; and which words ask for a job that reads.
+//! What is told of streams that fail in the middle.
 use crate::tests::lines::words_of;
-use knot_jobs::{Job, PlainJob, Ports, Status, run_alone};
-use knot_ports::{StdSink, StdSource, give_all};
-use knot_tells::{reading, sentence_of};
+use knot_jobs::{Ports, Status, run_alone};
+use knot_ports::{StdSink, StdSource};
+use knot_tells::sentence_of;
 use std::alloc::Global;
 use std::io;
 use std::io::{Read, Write};
@@ -104,75 +104,5 @@ fn faults_of_streams_are_told(rt: HostRuntime) -> Result<(), Fail> {
     };
     let words = "standard output can't be written: ";
     assert!(rt; ends(&rt, reader, 10, Status::WriteFault, words)?);
-    Ok(())
-}
-
-/// What is told where a call of `grid` ended with a status and wrote this.
-fn said_of(rt: &HostRuntime, status: Status, written: &[u8]) -> Result<String, Fail> {
-    let reader = Bytes {
-        left: b"",
-        fails: false,
-    };
-    let source = StdSource::new(rt.alloc(), reader, 0);
-    let mut sink = StdSink::new(Room { left: 100 });
-    let _all = give_all(&mut sink, written);
-    said(rt, "knot grid", status, &source, &sink)
-}
-
-const WRITTEN: [(Status, &[u8], &str); 8] = [
-    (
-        Status::Malformed,
-        b"malformed line 12\n",
-        "line 12 is not what is due in a planar diagram code; of DT and Gauss codes tools/code.py makes diagrams",
-    ),
-    (
-        Status::Limit,
-        b"limit line 1\n",
-        "line 1 exceeds a limit of a planar diagram code",
-    ),
-    (
-        Status::Rejected,
-        b"rejected edge 7\n",
-        "edge 7 does not stand exactly twice",
-    ),
-    (Status::Rejected, b"rejected step 0 range\n", ""),
-    (
-        Status::Limit,
-        b"limit bytes\n",
-        "the input has more bytes than the job takes",
-    ),
-    (Status::Malformed, b"malformed line 12", ""),
-    (Status::Limit, b"limit line \n", ""),
-    (Status::Malformed, b"accepted\n", ""),
-];
-
-#[test]
-fn answers_name_lines(rt: HostRuntime) -> Result<(), Fail> {
-    for (status, written, expected) in WRITTEN {
-        let said = said_of(&rt, status, written)?;
-        assert_eq!(rt; said.as_str(), expected);
-    }
-    Ok(())
-}
-
-/// The job that the words of a line ask for, where it reads.
-fn read_by(alloc: Global, line: &str) -> Result<Option<Job>, Fail> {
-    let words = words_of(alloc, line)?;
-    Ok(reading(alloc, words.as_slice()))
-}
-
-const LINES: [(&str, Option<Job>); 5] = [
-    ("knot decide", Some(Job::Decide)),
-    ("knot --spare 0 code", Some(Job::Plain(PlainJob::Code))),
-    ("knot sample", None),
-    ("knot decide --spare 5", None),
-    ("knot", None),
-];
-
-#[test]
-fn a_job_that_reads_is_known_by_its_words(rt: HostRuntime) -> Result<(), Fail> {
-    for (line, expected) in LINES {
-        assert_eq!(rt; read_by(rt.alloc(), line)?, expected);
-    }
     Ok(())
 }

@@ -1,9 +1,7 @@
-//! Calls of `decide` with more workers than one, and calls alone that are asked for more.
+//! Calls of `decide` with one worker and with more.
 use super::gate::Meeting;
 use super::{TREFOILS, call, is_exhausted};
-use crate::tests::lines::words_of;
-use knot_jobs::{Ports, run_alone};
-use knot_ports::{MemSink, MemSource, Status};
+use knot_ports::Status;
 use search_book::Event;
 use search_pool::Finding;
 use std::alloc::Global;
@@ -32,18 +30,6 @@ fn search_at<R: Threads + Wait + Sync>(
     let mut kept = None;
     let status = call(rt, alloc, line, TREFOILS, gate, &mut kept)?;
     search_of(status, kept)
-}
-
-/// The search that a call alone on both trefoils keeps.
-fn search_alone(alloc: Global, line: &str) -> Result<Finding, Fail> {
-    let words = words_of(alloc, line)?;
-    let mut ports = Ports {
-        source: MemSource::new(Vec::from_slice(alloc, TREFOILS)?, 4096, Vec::new(alloc)),
-        sink: MemSink::new(alloc, 4096, 100, Vec::new(alloc))?,
-        kept: None,
-    };
-    let status = run_alone(alloc, words.as_slice(), &mut ports);
-    search_of(status, ports.kept)
 }
 
 /// What happened to the book of a search.
@@ -87,6 +73,16 @@ fn have_claimed(finding: &Finding, workers: u32) -> bool {
     of_all == entries_of(finding)
 }
 
+/// Whether each of so many workers claimed an entry.
+fn each_has_claimed(history: &[Event], workers: u32) -> bool {
+    for worker in 0..workers {
+        if claims(history, worker) == 0 {
+            return false;
+        }
+    }
+    true
+}
+
 /// Whether neither of the first two entries was settled before both were claimed.
 fn begins_with_two_claims(history: &[Event]) -> bool {
     history.len() > 1
@@ -115,20 +111,21 @@ fn three_workers_of_a_call_are_at_one_book_at_once(rt: HostRuntime) -> Result<()
     Ok(())
 }
 
+/// By the 20th pass twelve entries are settled, so there are eight to claim at once, and the budget is far off.
+#[test]
+fn eight_workers_of_a_call_are_at_one_book_at_once(rt: HostRuntime) -> Result<(), Fail> {
+    let gate = Meeting::new(19, 8);
+    let line = "knot decide --workers 8 --spare 2 --budget 5000";
+    let finding = search_at(&rt, rt.alloc(), line, &gate)?;
+    assert_eq!(rt; gate.seen(), (7, 0));
+    assert!(rt; each_has_claimed(history_of(&finding), 8));
+    Ok(())
+}
+
 #[test]
 fn one_worker_passes_no_gate(rt: HostRuntime) -> Result<(), Fail> {
     let gate = Meeting::new(0, 2);
     let _finding = search_at(&rt, rt.alloc(), "knot decide --workers 1", &gate)?;
     assert!(rt; gate.is_unused());
-    Ok(())
-}
-
-#[test]
-fn a_call_alone_has_one_worker_whatever_the_words_say(rt: HostRuntime) -> Result<(), Fail> {
-    let many = search_alone(rt.alloc(), "knot decide --workers 8")?;
-    let one = search_alone(rt.alloc(), "knot decide")?;
-    assert!(rt; is_exhausted(&many));
-    assert!(rt; have_claimed(&many, 1));
-    assert!(rt; history_of(&many) == history_of(&one));
     Ok(())
 }

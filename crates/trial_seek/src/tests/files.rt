@@ -1,13 +1,10 @@
 //! A place in memory, at which each step fails in turn.
 ghost use Rattle.std.specs.Prelude.{◌≡◌, Some, option_map};
 
-use knot_ports::give_all;
-use seek_parts::{DiskPlaces, Place, Places, TextSink, put_whole, try_place};
+use seek_parts::{Place, put_whole, try_place};
 use std::alloc::Global;
-use std::fs::Permissions;
-use std::os::unix::fs::PermissionsExt;
+use std::io;
 use std::test::Fail;
-use std::{fs, io};
 
 /// The place has these bytes, if any. One call fails, counted from 0 over all steps, and each write takes three bytes at most.
 #[derive(Drop)]
@@ -132,55 +129,5 @@ fn a_file_is_put_whole_or_not_at_all(rt: HostRuntime) -> Result<(), Fail> {
     assert_eq!(rt; bytes.as_slice(), TEXT);
     assert!(rt; is_done);
     assert!(rt; !is_there);
-    Ok(())
-}
-
-const FOLDER: &str = "whole_files_test";
-
-const PATH: &str = "whole_files_test/place";
-
-/// On disk a text is put where nothing stands, and then a shorter one where it stands, of which nothing is left. The folder has no other file
-/// then, or it would not be removed.
-#[test]
-fn a_text_is_put_on_disk(rt: HostRuntime) -> Result<(), Fail> {
-    let _gone = fs::remove_dir_all(&rt, FOLDER);
-    fs::create_dir(&rt, FOLDER)?;
-    let mut places = DiskPlaces::new(&rt);
-    for text in [TEXT, OLD] {
-        places.try_path(PATH)?;
-        places.put(PATH, text)?;
-        assert_eq!(rt; fs::read(&rt, PATH)?.as_slice(), text);
-    }
-    fs::remove_file(&rt, PATH)?;
-    fs::remove_dir(&rt, FOLDER)?;
-    assert!(rt; places.try_path(PATH).is_err());
-    assert!(rt; places.put(PATH, TEXT).is_err());
-    Ok(())
-}
-
-const MODE_PATH: &str = "whole_files_mode";
-
-#[test]
-fn a_file_that_is_replaced_keeps_its_mode(rt: HostRuntime) -> Result<(), Fail> {
-    let mut places = DiskPlaces::new(&rt);
-    for mode in [0o600, 0o751] {
-        fs::write(&rt, MODE_PATH, OLD)?;
-        fs::set_permissions(&rt, MODE_PATH, Permissions::from_mode(mode))?;
-        places.try_path(MODE_PATH)?;
-        places.put(MODE_PATH, TEXT)?;
-        let found = fs::metadata(&rt, MODE_PATH)?.permissions().mode();
-        assert_eq!(rt; found & 0o777, mode);
-        assert_eq!(rt; fs::read(&rt, MODE_PATH)?.as_slice(), TEXT);
-    }
-    fs::remove_file(&rt, MODE_PATH)?;
-    Ok(())
-}
-
-#[test]
-fn a_text_is_held(rt: HostRuntime) -> Result<(), Fail> {
-    let mut sink = TextSink::new(rt.alloc());
-    assert!(rt; give_all(&mut sink, OLD).is_ok());
-    assert!(rt; give_all(&mut sink, TEXT).is_ok());
-    assert_eq!(rt; sink.bytes(), b"oldabcdefgh".as_slice());
     Ok(())
 }

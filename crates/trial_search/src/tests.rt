@@ -1,6 +1,0 @@
-//! A file a crate.
-mod book;
-mod pairs;
-mod pool;
-mod samples;
-mod simplified;
