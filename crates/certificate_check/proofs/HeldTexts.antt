@@ -1,5 +1,6 @@
 -- Evidence that holds has a text, if its block has one: its numbers are never too large.
-use Rattle.std.proofs.Common.{◌≡◌, ◌≤◌, ◌<◌, ◌+◌, ◌*◌, ◌^◌, ◌∙◌, ◌==◌, ℕ, ℤ, unsigned_abs, List, [], ◌∷◌, Option, Some, None, length, map, replicate, refl, ap, sym, subst, arith}
+use Rattle.std.proofs.Common.{◌≡◌, ◌≤◌, ◌<◌, ◌+◌, ◌*◌, ◌^◌, ◌∙◌, ◌==◌, ℕ, ℤ, unsigned_abs, List, [], ◌∷◌, Option, Some, None, length, map, replicate, refl, ap}
+use Rattle.std.proofs.Common.{sym, subst, arith}
 use Rattle.std.specs.Prelude.{count_by}
 use Rattle.std.specs.List.{All, AllByRecursion, range_with_len, sum_by}
 use Rattle.std.proofs.Math.Nat.{pow-le-pow_right, mul-le-mul_left, mul_comm}

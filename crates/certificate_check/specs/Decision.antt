@@ -55,7 +55,7 @@ IsByWrittenBlock (Linking one two) = Unit {0}
 -- the ruling on what is said of the diagrams of a problem is that it is accepted
 abbrev pub RulesAccepted : ProblemText → Said → Type 0
 RulesAccepted p (said.Verdict v) = verdicts.RulesOnVerdict (grid_of p.first) (grid_of p.second) v verdict_ruling.Accepted
-RulesAccepted p (said.Evidence x) = evidence.RulesOnNumbers (grid_of p.first) (grid_of p.second) x evidence_ruling.Accepted
+RulesAccepted p (said.Evidence x) = evidence.RulesOnEvidence (grid_of p.first) (grid_of p.second) x evidence_ruling.Accepted
 
 -- the bytes are read as a certificate of this problem in which this is said, and the ruling on it is that it is accepted
 pub record IsAccepted (bytes : List ℕ) (problem : ProblemText) (x : Said) : Type 0 where

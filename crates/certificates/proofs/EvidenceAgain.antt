@@ -1,5 +1,6 @@
 -- Lines of evidence that were printed are read again.
-use Rattle.std.proofs.Common.{◌≡◌, ℕ, ◌≤◌, ◌<◌, ◌+◌, ◌==◌, ℤ, unsigned_abs, inl, inr, List, [], ◌∷◌, ◌++◌, length, map, true, false, Option, Some, None, Ok, refl, ap, ap₂, subst, ◌∙◌, arith, codes, nat_lt}
+use Rattle.std.proofs.Common.{◌≡◌, ℕ, ◌≤◌, ◌<◌, ◌+◌, ◌==◌, ℤ, unsigned_abs, inl, inr, List, [], ◌∷◌, ◌++◌, length, map, true, false, Option, Some, None, Ok}
+use Rattle.std.proofs.Common.{refl, ap, ap₂, subst, ◌∙◌, arith, codes, nat_lt}
 use Rattle.std.specs.List.{AllByRecursion, list_any}
 use Rattle.std.specs.Fmt.{decimal}
 use Rattle.std.proofs.lemmas.Bool.{cases_lt, lt-ltb, le-ltb, or_from, eq-eqb}
@@ -37,7 +38,8 @@ use Rattle.number_text.specs.declared.evidence_items.TheConstants.{THIRD_VERSION
 use Rattle.number_text.specs.BlockCocycles.{cocycle_or_none}
 use Rattle.number_text.specs.Evidence.{seeds_at, numbers_line_at, seeded_numbers_item, count_of, numbers_evidence, components_at, letters_at, linked_item}
 use Rattle.number_text.specs.Evidence.{linking_evidence, evidence_at, head_at, third_item}
-use Rattle.certificates.specs.Printed.{perhaps_cocycle, counted_lines, linked_lines, third_lines, HasPerhapsText, HasCountedText, HasLinkedText, HasEvidenceText}
+use Rattle.certificates.specs.Printed.{perhaps_cocycle, counted_lines, linked_lines, third_lines, HasPerhapsText, HasCountedText, HasLinkedText}
+use Rattle.certificates.specs.Printed.{HasEvidenceText}
 
 -- ---- seeds and numbers
 

@@ -1,5 +1,6 @@
 -- The lines of evidence are lines of words.
-use Rattle.std.proofs.Common.{◌≡◌, ℕ, zero, suc, ◌<◌, ◌≤◌, ◌+◌, ℤ, unsigned_abs, List, [], ◌∷◌, ◌++◌, length, map, true, Option, Some, None, refl, ◌∙◌, subst, arith, codes}
+use Rattle.std.proofs.Common.{◌≡◌, ℕ, zero, suc, ◌<◌, ◌≤◌, ◌+◌, ℤ, unsigned_abs, List, [], ◌∷◌, ◌++◌, length, map, true, Option, Some, None, refl, ◌∙◌, subst}
+use Rattle.std.proofs.Common.{arith, codes}
 use Rattle.std.specs.List.{AllByRecursion, list_all, range_with_len}
 use Rattle.std.specs.Fmt.{decimal}
 use Rattle.std.proofs.lemmas.Bool.{and_from}
@@ -27,7 +28,8 @@ use Rattle.evidence_core.specs.declared.evidence.Linked.{Linked}
 use Rattle.evidence_core.specs.declared.evidence.Evidence.{Evidence}
 use Rattle.evidence_core.specs.declared.evidence.Evidence.TheVariants.{Numbers, Linking}
 use Rattle.number_text.specs.declared.evidence_items.TheConstants.{THIRD_VERSION}
-use Rattle.certificates.specs.Printed.{perhaps_cocycle, counted_lines, linked_lines, evidence_lines, third_lines, HasPerhapsText, HasCountedText, HasLinkedText, HasEvidenceText}
+use Rattle.certificates.specs.Printed.{perhaps_cocycle, counted_lines, linked_lines, evidence_lines, third_lines, HasPerhapsText, HasCountedText, HasLinkedText}
+use Rattle.certificates.specs.Printed.{HasEvidenceText}
 use Rattle.certificates.proofs.EvidenceAgain.{bytes_short}
 
 -- ---- the table of a cocycle

@@ -26,7 +26,7 @@ counted_line d plan b =
 abbrev pub block_text : Diagram → List Step → Block → List ℕ
 block_text d plan b = lines_text (quandle_lines (codes "quandle") b.listed) ++ counted_line d plan b
 
--- the same of each block
+-- for each block its quandle and its numbers, by a plan of the diagram
 abbrev pub text_by : Diagram → List Step → List Block → List ℕ
 text_by d plan blocks = flat_map (block_text d plan) blocks
 

@@ -25,7 +25,7 @@ pub fn numbers_text(alloc: Global, grid: &Grid, blocks: &[Block]) -> Result<Vec<
     }
 }
 
-/// The same by a plan of the grid.
+/// For each block the quandle, and the numbers of a grid by the block, or `wide`, by this plan of the grid.
 fn text_by(
     alloc: Global,
     grid: &Grid,

@@ -12,7 +12,7 @@ use Rattle.number_text.specs.declared.said.Said.{Said}
 use Rattle.number_text.specs.declared.said.Said.TheVariants as said
 use Rattle.evidence_core.specs.declared.cause.NumberRuling.{NumberRuling}
 use Rattle.evidence_core.specs.declared.cause.NumberRuling.TheVariants as numbers
-use Rattle.number_check.specs.Ruling.{RulesOnNumbers}
+use Rattle.number_check.specs.Ruling.{RulesOnEvidence}
 use Rattle.reply_text.specs.declared.reply.PlainReply.{PlainReply}
 use Rattle.knot_ports.specs.declared.status.Status.{Status}
 use Rattle.knot_ports.specs.declared.status.Status.TheVariants as status
@@ -38,7 +38,7 @@ pub record AnswersVerdict (problem : ProblemText) (verdict : Verdict) (reply : P
 -- the ruling on evidence by numbers
 pub record AnswersEvidence (problem : ProblemText) (evidence : Evidence) (reply : PlainReply) : Type 0 where
   pub ruling : NumberRuling
-  pub rules : RulesOnNumbers (grid_of problem.first) (grid_of problem.second) evidence ruling
+  pub rules : RulesOnEvidence (grid_of problem.first) (grid_of problem.second) evidence ruling
   pub is : reply ≡ plain_reply (number_ruling_status ruling) (number_ruling_line ruling)
 
 abbrev pub AnswersSaid : ProblemText → Said → PlainReply → Type 0

@@ -55,7 +55,7 @@ fn is_dihedral(quandle: &Quandle) -> bool
     true
 }
 
-/// The same for a colour x and all colours y.
+/// Whether `x ▷ y` is `2y - x` mod the order, for this colour x and all colours y.
 fn are_reflected(quandle: &Quandle, x: u8) -> bool
     requires { x < quandle.now.order }
     ensures { result ≡ list_all (λ y. over quandle.now x y == (2 * y + (quandle.now.order - x)) % quandle.now.order) (range_with_len 0 quandle.now.order) }
@@ -69,7 +69,7 @@ fn are_reflected(quandle: &Quandle, x: u8) -> bool
     true
 }
 
-/// The same for two colours x and y.
+/// Whether `x ▷ y` is `2y - x` mod the order, for these two colours.
 fn is_reflected(quandle: &Quandle, x: u8, y: u8) -> bool
     requires { (x < quandle.now.order) × (y < quandle.now.order) }
     ensures { result ≡ (over quandle.now x y == (2 * y + (quandle.now.order - x)) % quandle.now.order) }

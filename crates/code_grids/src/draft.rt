@@ -3,8 +3,8 @@
 use crate::bends::{Bends, bends_of};
 use crate::lines::Lines;
 use crate::order::places;
-use crate::plan::{Plan, turned};
-use crate::rectangles::Pairs;
+use crate::rectangles::LinePairs;
+use crate::sphere::{Sphere, turned};
 use crate::tables::{at, marked};
 use crossing_codes::Code;
 use memory_core::OutOfMemory;
@@ -23,47 +23,36 @@ pub struct Draft {
     pub columns: usize,
 }
 
-impl Draft {
-    /// A draft without marks, for a diagram of so many columns.
-    fn empty(alloc: Global, columns: usize) -> Draft {
-        Draft {
-            x: Vec::new(alloc),
-            o: Vec::new(alloc),
-            crossings: Vec::new(alloc),
-            columns,
-        }
-    }
-}
-
 /// A draft of a diagram of a code, of at most so many columns.
 pub fn draft_of(alloc: Global, code: &Code, most: usize) -> Result<Draft, OutOfMemory> {
-    let plan = Plan::of(alloc, code)?;
-    let bends = bends_of(alloc, &plan)?;
+    let sphere = Sphere::of(alloc, code)?;
+    let bends = bends_of(alloc, &sphere)?;
     let loops = code.loops as usize;
-    let mut draft = Draft::empty(alloc, columns_for(&plan, &bends, loops));
+    let mut draft = Draft {
+        x: Vec::new(alloc),
+        o: Vec::new(alloc),
+        crossings: Vec::new(alloc),
+        columns: columns_for(&sphere, &bends, loops),
+    };
     if draft.columns > most {
         return Ok(draft);
     }
-    let lines = Lines::of(alloc, &plan, &bends)?;
-    let pairs = Pairs::of(alloc, &plan, &bends, &lines)?;
-    let (columns, rows) = places_of(alloc, &plan, &lines, &pairs)?;
-    push_marks(&mut draft, &lines, columns.as_slice(), rows.as_slice())?;
+    let lines = Lines::of(alloc, &sphere, &bends)?;
+    let pairs = LinePairs::of(alloc, &sphere, &bends, &lines)?;
+    let (columns, rows) = places_of(alloc, &sphere, &lines, &pairs)?;
+    let across = columns.as_slice();
+    let upward = rows.as_slice();
+    push_marks(&mut draft, &lines, across, upward)?;
     push_loops(&mut draft, loops)?;
-    push_crossings(
-        &mut draft,
-        &plan,
-        &lines,
-        columns.as_slice(),
-        rows.as_slice(),
-    )?;
+    push_crossings(&mut draft, &sphere, &lines, across, upward)?;
     Ok(draft)
 }
 
 /// How many columns a diagram takes: half as many as its edges turn, and two more for each component without a crossing.
-fn columns_for(plan: &Plan, bends: &Bends, loops: usize) -> usize {
+fn columns_for(sphere: &Sphere, bends: &Bends, loops: usize) -> usize {
     let mut turns: usize = 0;
-    for dart in 0..plan.darts {
-        if plan.leaves(dart) {
+    for dart in 0..sphere.darts {
+        if sphere.leaves(dart) {
             turns = turns.saturating_add(bends.count(dart));
         }
     }
@@ -73,22 +62,17 @@ fn columns_for(plan: &Plan, bends: &Bends, loops: usize) -> usize {
 /// The columns of the vertical lines and the rows of the others, by line.
 fn places_of(
     alloc: Global,
-    plan: &Plan,
+    sphere: &Sphere,
     lines: &Lines,
-    pairs: &Pairs,
+    pairs: &LinePairs,
 ) -> Result<(Vec<usize>, Vec<usize>), OutOfMemory> {
     let count = lines.count;
-    let total = count.saturating_add(plan.roots.len()).saturating_add(1);
+    let total = count.saturating_add(sphere.roots.len()).saturating_add(1);
     let upright = lines.upright.as_slice();
     let flat: Vec<bool> = upright.iter().map(|upright| !*upright).collect(alloc)?;
     let columns = places(alloc, pairs.across.as_slice(), upright, count, total)?;
-    let rows = places(
-        alloc,
-        pairs.upward.as_slice(),
-        flat.as_slice(),
-        count,
-        total,
-    )?;
+    let upward = pairs.upward.as_slice();
+    let rows = places(alloc, upward, flat.as_slice(), count, total)?;
     Ok((columns, rows))
 }
 
@@ -127,14 +111,14 @@ fn push_loops(draft: &mut Draft, loops: usize) -> Result<(), AllocError> {
 /// Puts the crossings, each where its vertical strand over meets the other one.
 fn push_crossings(
     draft: &mut Draft,
-    plan: &Plan,
+    sphere: &Sphere,
     lines: &Lines,
     columns: &[usize],
     rows: &[usize],
 ) -> Result<(), AllocError> {
-    for root in 0..plan.darts {
+    for root in 0..sphere.darts {
         if root % 4 == 0 {
-            let over = if plan.leaves(turned(root, 1)) { 1 } else { 3 };
+            let over = if sphere.leaves(turned(root, 1)) { 1 } else { 3 };
             let column = at(columns, lines.enters(turned(root, over)));
             let row = at(rows, lines.enters(turned(root, 2)));
             draft.crossings.push((small(column), small(row)))?;

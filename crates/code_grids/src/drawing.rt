@@ -35,7 +35,7 @@ pub struct Drawing {
 /// The code of the diagram is the given one under other names. For every quandle the colours of the edges and loops that each
 /// colouring of the diagram gives, by their old names, are a colouring of the given code, and each of these comes from exactly one colouring.
 ///
-/// The code may have no fault (`first_fault` of code_rows). Refused with `Columns` where the drawing takes more columns than a grid may
+/// The code must have no fault (`first_fault` of code_rows). Refused with `Columns` where the drawing takes more columns than a grid may
 /// have; with `Lost` where it turned out to be no diagram of the code, which no test has met.
 pub fn grid_of_code(alloc: Global, given: &Code) -> Result<Result<Drawing, Refusal>, OutOfMemory>
     requires { first_code_fault given.now ≡ None }

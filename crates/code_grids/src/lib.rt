@@ -11,11 +11,11 @@ mod edge_names;
 pub mod laws;
 mod lines;
 mod order;
-mod plan;
 mod rectangles;
 mod refusal;
 mod renaming;
 mod same_code;
+mod sphere;
 mod tables;
 
 pub use draft::{Draft, draft_of};

@@ -22,10 +22,11 @@ counted_item expected most text = do
   count ← at_most most value.1.number value.0
   Ok (count, line.1)
 
+-- a number that was read, as one that may lack
 abbrev pub some_count : Result (ℕ × Text) TextFault → Result (Option ℕ × Text) TextFault
 some_count read = read >>= λ x. Ok (Some x.0, x.1)
 
--- the same where a line that begins with the word is next, else nothing
+-- a word and a number where a line that begins with the word is next, else nothing
 unfoldable pub perhaps_counted : List ℕ → ℕ → Text → Result (Option ℕ × Text) TextFault
 perhaps_counted expected most text = if begins expected text then some_count (counted_item expected most text) else Ok (None, text)
 
@@ -44,6 +45,7 @@ abbrev pub are_due : Option ℕ → List CodeRow → Bool
 are_due (Some due) rows = length rows == due
 are_due None rows = true
 
+-- the rows, as many as the line `crossings` tells, if it is there
 unfoldable pub rows_item : Text → Result (List CodeRow × Text) TextFault
 rows_item text = do
   due ← perhaps_counted (codes "crossings") MAX_CROSSINGS text
@@ -55,6 +57,7 @@ abbrev pub walks_behind : List CodeRow → Text → Result (List (List GaussPass
 walks_behind [] text = Ok ([], text)
 walks_behind (row ∷ rows) text = walks_from [] text
 
+-- rows, the number of loops and Gauss lines, and nothing behind them
 unfoldable pub code_in : Text → Result CodeText TextFault
 code_in text = do
   rows ← rows_item text
@@ -63,6 +66,6 @@ code_in text = do
   end ← text_end walks.1
   Ok (record { rows = rows.0; loops = unwrap_or loops.0 0; walks = walks.0 })
 
--- the same of bytes
+-- what a text says of a code, from its bytes
 abbrev pub code_text_of : List ℕ → Result CodeText TextFault
 code_text_of bytes = code_in (text_of (blanked bytes))

@@ -7,6 +7,7 @@ use Rattle.code_rows.specs.JoinedEdges.{over_from, over_to}
 use Rattle.code_rows.specs.CodeMap.{no_crossing}
 use Rattle.code_text.specs.declared.gauss_lines.GaussPassage.{GaussPassage}
 
+-- the crossing of a passage, or one without edges where the code has none of its number
 abbrev pub crossing_of : List Crossing → GaussPassage → Crossing
 crossing_of xs p = slice_index_or xs (p.crossing - 1) no_crossing
 
@@ -17,6 +18,7 @@ comes_on x over = if over then over_from x else x.first
 abbrev pub leaves_on : Crossing → Bool → ℕ
 leaves_on x over = if over then over_to x else x.third
 
+-- both hold, or neither does
 abbrev pub are_alike : Bool → Bool → Bool
 are_alike b c = if b then c else not c
 
@@ -28,6 +30,7 @@ is_there xs p = nat_le 1 p.crossing && (nat_le p.crossing (length xs) && are_ali
 abbrev pub edge_leads_to : List Crossing → GaussPassage → GaussPassage → Bool
 edge_leads_to xs p q = leaves_on (crossing_of xs p) p.over == comes_on (crossing_of xs q) q.over
 
+-- the first of the passages, or this one where there are none
 abbrev pub next_of : GaussPassage → List GaussPassage → GaussPassage
 next_of first [] = first
 next_of first (p ∷ ps) = p
@@ -37,6 +40,7 @@ abbrev pub lead_on : List Crossing → GaussPassage → List GaussPassage → Bo
 lead_on xs first [] = true
 lead_on xs first (p ∷ ps) = edge_leads_to xs p (next_of first ps) && lead_on xs first ps
 
+-- the strand goes from passage to passage of a line, and round
 abbrev pub goes_round : List Crossing → List GaussPassage → Bool
 goes_round xs [] = true
 goes_round xs (p ∷ ps) = lead_on xs p (p ∷ ps)
@@ -45,6 +49,7 @@ goes_round xs (p ∷ ps) = lead_on xs p (p ∷ ps)
 abbrev pub all_of : List (List GaussPassage) → List GaussPassage
 all_of walks = flat_map (λ walk. walk) walks
 
+-- the passage goes over, or under, through crossing k
 abbrev pub is_through : Bool → ℕ → GaussPassage → Bool
 is_through over k p = are_alike p.over over && (p.crossing == k)
 

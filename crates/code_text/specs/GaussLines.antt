@@ -16,9 +16,11 @@ use Rattle.code_text.specs.declared.gauss_lines.GaussPassage.{GaussPassage}
 abbrev pub over_of : ℕ → Option Bool
 over_of b = if b == 79 then Some true else if b == 85 then Some false else None
 
+-- + for a positive sign, - for a negative one
 abbrev pub sign_of : List ℕ → Option Bool
 sign_of bytes = if bytes_eq bytes (codes "+") then Some true else if bytes_eq bytes (codes "-") then Some false else None
 
+-- the passage of three parts, if each is one
 abbrev pub passage_by : Option Bool → Option ℕ → Option Bool → Option GaussPassage
 passage_by (Some over) (Some crossing) (Some positive) = Some (record { over = over; crossing = crossing; positive = positive })
 passage_by over crossing positive = None
@@ -28,6 +30,7 @@ abbrev pub passage_of : List ℕ → Option GaussPassage
 passage_of [] = None
 passage_of (kind ∷ rest) = passage_by (over_of kind) (number_of (take (length rest - 1) rest)) (sign_of (drop (length rest - 1) rest))
 
+-- its number is above those of crossings
 abbrev pub is_beyond : GaussPassage → Bool
 is_beyond p = nat_lt MAX_CROSSINGS p.crossing
 
@@ -36,6 +39,7 @@ abbrev pub some_passages : ℕ → List GaussPassage → Result (List GaussPassa
 some_passages n [] = Err (Malformed n)
 some_passages n (p ∷ ps) = if list_any is_beyond (p ∷ ps) then Err (Limit n) else Ok (p ∷ ps)
 
+-- `gauss`, and the passages of a component
 unfoldable pub walk_at : NumberedLine → Result (List GaussPassage) TextFault
 walk_at line = do
   rest ← word (codes "gauss") line
@@ -49,5 +53,6 @@ walks_among before (line ∷ lines) ending =
     if starts (codes "gauss") line.tokens then (walk_at line >>= λ walk. walks_among (before ++ walk ∷ []) lines ending)
     else Ok (before, record { lines = line ∷ lines; ending = ending })
 
+-- the Gauss lines that are next in a text, behind what was read before
 unfoldable pub walks_from : List (List GaussPassage) → Text → Result (List (List GaussPassage) × Text) TextFault
 walks_from before text = walks_among before text.lines text.ending

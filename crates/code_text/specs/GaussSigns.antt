@@ -13,7 +13,7 @@ sign_by (p ∷ ps) k sign = if p.crossing == k then p.positive else sign_by ps k
 abbrev pub positive_at : List Crossing → ℕ → Bool
 positive_at xs k = (slice_index_or xs k no_crossing).positive
 
--- the same rows, with the signs of the passages
+-- the second crossings have the rows of the first, and the signs of the passages
 pub record AreSigned (ps : List GaussPassage) (xs ys : List Crossing) : Type 0 where
   pub rows : map row_of_crossing ys ≡ map row_of_crossing xs
   pub signs : (k : ℕ) → k < length xs → positive_at ys k ≡ sign_by ps (k + 1) (positive_at xs k)

@@ -24,9 +24,9 @@ abbrev pub rows_of_numbers : List ℕ → List CodeRow
 rows_of_numbers (a ∷ b ∷ c ∷ d ∷ names) = record { first = a; second = b; third = c; fourth = d } ∷ rows_of_numbers names
 rows_of_numbers names = []
 
--- what is wrong with line n when it is read, where the rows are then these, of which there may be so many: a limit, then the content
-abbrev pub ruled_rows : ℕ → ℕ → Bool → List CodeRow → Result (List CodeRow) TextFault
-ruled_rows most n has_long rows =
+-- the rows when line n is read, of which there may be so many, or what is wrong with the line: a limit, then the content
+abbrev pub rows_or_fault : ℕ → ℕ → Bool → List CodeRow → Result (List CodeRow) TextFault
+rows_or_fault most n has_long rows =
     if has_long || nat_lt MAX_CROSSINGS (length rows) then Err (Limit n)
     else if nat_lt most (length rows) then Err (Malformed n) else Ok rows
 
@@ -34,7 +34,7 @@ ruled_rows most n has_long rows =
 unfoldable pub with_rows : ℕ → List CodeRow → NumberedLine → Result (List CodeRow) TextFault
 with_rows most before line = do
   names ← row_numbers line
-  if length names % 4 == 0 then ruled_rows most line.number (list_any is_long names) (before ++ rows_of_numbers names) else Err (Malformed line.number)
+  if length names % 4 == 0 then rows_or_fault most line.number (list_any is_long names) (before ++ rows_of_numbers names) else Err (Malformed line.number)
 
 -- a line that stands behind the rows is next
 abbrev pub are_behind : Text → Bool
@@ -47,5 +47,6 @@ rows_among most before (line ∷ lines) ending =
     if are_behind (record { lines = line ∷ lines; ending = ending }) then Ok (before, record { lines = line ∷ lines; ending = ending })
     else with_rows most before line >>= λ rows. rows_among most rows lines ending
 
+-- the rows of the lines that are next in a text, behind what was read before
 unfoldable pub rows_from : ℕ → List CodeRow → Text → Result (List CodeRow × Text) TextFault
 rows_from most before text = rows_among most before text.lines text.ending

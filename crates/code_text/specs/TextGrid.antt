@@ -50,12 +50,14 @@ IsRowsFault t (rows.Edge name) = unpaired t.rows t.loops ≡ Some (rows.Edge nam
 IsRowsFault t (rows.Direction name) = (unpaired t.rows t.loops ≡ None) × IsClash t.rows t.loops name
 IsRowsFault t rows.Plane = (unpaired t.rows t.loops ≡ None) × IsUnplane t.rows t.loops
 
+-- a refusal is right: `Rows` and `Gauss` exactly; `Columns` and `Lost` only where the text says a code
 abbrev pub IsRefusal : CodeText → TextRefusal → Type 0
 IsRefusal t (Rows fault) = IsRowsFault t fault
 IsRefusal t Gauss = HasWrongLines t
 IsRefusal t (Columns columns) = (MAX_SIZE < columns) × ((c : Code) × Says t c)
 IsRefusal t Lost = (c : Code) × Says t c
 
+-- what is answered to a text: a diagram of its code, or a refusal that is right
 abbrev pub IsAnswer : CodeText → Result Diagram TextRefusal → Type 0
 IsAnswer t (Ok d) = IsDiagramOf t d
 IsAnswer t (Err refusal) = IsRefusal t refusal

@@ -40,7 +40,7 @@ fn counted_item(lines: &mut Lines, expected: &[u8], most: u32) -> Result<u32, Te
     at_most(most, &line, value)
 }
 
-/// The same where a line that begins with the word is next.
+/// A word and a number, alone in a line, where a line that begins with the word is next; else nothing.
 #[tactic(auto, unfolding(crate::specs::CodeReading::perhaps_counted))]
 fn perhaps_counted(lines: &mut Lines, expected: &[u8], most: u32) -> Result<Option<u32>, TextFault>
     ensures { Gives (λ n. (n, lines.new)) result (perhaps_counted expected.now most lines.old) }

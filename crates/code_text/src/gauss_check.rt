@@ -78,7 +78,7 @@ fn all_there(crossings: &[Crossing], passages: &[GaussPassage]) -> bool
 }
 
 /// Whether the edge that leaves the one passage leads to the other.
-fn leads_to(crossings: &[Crossing], from: GaussPassage, to: GaussPassage) -> bool
+fn edge_leads_to(crossings: &[Crossing], from: GaussPassage, to: GaussPassage) -> bool
     ensures { result ≡ edge_leads_to crossings.now from to }
 {
     leaves_on(&crossing_of(crossings, from), from.over)
@@ -101,7 +101,7 @@ fn lead_on(crossings: &[Crossing], first: GaussPassage, walk: &[GaussPassage]) -
 {
     let mut left = walk;
     while let [passage, after @ ..] = left {
-        if !leads_to(crossings, *passage, next_of(first, after)) {
+        if !edge_leads_to(crossings, *passage, next_of(first, after)) {
             return false;
         }
         left = after;
@@ -119,7 +119,7 @@ fn goes_round(crossings: &[Crossing], walk: &[GaussPassage]) -> bool
     }
 }
 
-/// Whether it does so along each line.
+/// Whether along each line the strand goes from passage to passage and round.
 fn all_go_round(crossings: &[Crossing], walks: &[Items<GaussPassage>]) -> bool
     ensures { result ≡ list_all (goes_round crossings.now) walks.now }
 {
@@ -166,7 +166,7 @@ fn is_passed_twice(passages: &[GaussPassage], number: usize) -> bool
     passages_through(passages, true, number) == 1 && passages_through(passages, false, number) == 1
 }
 
-/// Whether each of so many crossings is.
+/// Whether each of so many crossings, numbered from 1, is passed once over and once under.
 fn all_passed_twice(passages: &[GaussPassage], count: usize) -> bool
     requires { count ≤ MAX_CROSSINGS }
     ensures { result ≡ list_all (is_passed_twice passages.now) (range_with_len 1 count) }

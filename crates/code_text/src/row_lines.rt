@@ -1,15 +1,12 @@
 //! Lines of rows.
 ghost use Rattle.std.specs.Prelude.{◌≡◌, ◌≤◌, ◌++◌, [], length, IfOk, OnOk};
-ghost use Rattle.std.specs.List.{list_any};
 ghost use Rattle.code_rows.specs.declared.code_fault.TheConstants.{MAX_CROSSINGS};
-ghost use Rattle.text_items.specs.NumberLines.{is_long};
 ghost use Rattle.text_items.specs.Reading.{Gives};
-ghost use Rattle.code_text.specs.RowLines.{says_something, row_numbers, rows_of_numbers, ruled_rows, with_rows, are_behind, rows_from};
+ghost use Rattle.code_text.specs.RowLines.{says_something, row_numbers, rows_of_numbers, rows_or_fault, with_rows, are_behind, rows_from};
 
 use code_rows::{CodeRow, MAX_CROSSINGS};
 use std::alloc::{AllocError, Global};
-use text_items::TextFault;
-use text_items::reading::MAX_NUMBER;
+use text_items::{TextFault, any_long};
 use text_lines::{Line, Lines, number};
 
 /// Whether a token is none of the words that say nothing.
@@ -51,13 +48,6 @@ fn push_rows(rows: &mut Vec<CodeRow>, names: &[u32]) -> Result<(), AllocError>
         left = after;
     }
     Ok(())
-}
-
-/// Whether one of these numbers has too many digits.
-fn any_long(names: &[u32]) -> bool
-    ensures { result ≡ list_any is_long names.now }
-{
-    names.iter().any(|name| *name > MAX_NUMBER)
 }
 
 /// Appends the rows of a line, of which there may be so many in all.

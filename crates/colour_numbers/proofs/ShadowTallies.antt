@@ -76,7 +76,8 @@ partly_more t d counts f n u is lt =
         ∙ ap (λ (m : ℕ). count_by p (range_with_len 0 n) + cond (p m) 1 0) (let e : 0 + n ≡ n = omega arith in e))
 
 -- all colours of the outer region
-pub partly_all : (t : ShadowCochain) (d : Diagram) (counts f : List ℕ) (n : ℕ) → n ≡ t.quandle.order → partly t d counts f n ≡ tallied t.modulus (outers_of t d) counts (f ∷ [])
+pub partly_all : (t : ShadowCochain) (d : Diagram) (counts f : List ℕ) (n : ℕ) → n ≡ t.quandle.order
+    → partly t d counts f n ≡ tallied t.modulus (outers_of t d) counts (f ∷ [])
 partly_all t d counts f n all =
     by_place t.modulus (partly t d counts f n) (tallied t.modulus (outers_of t d) counts (f ∷ [])) (partly_long t d counts f n) (tallied_long t.modulus (outers_of t d) counts (f ∷ []))
     (λ v lt.

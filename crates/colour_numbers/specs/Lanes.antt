@@ -16,6 +16,7 @@ use Rattle.colour_numbers.specs.declared.lane.Lane.{Lane}
 abbrev pub covering : Diagram → ℕ → ℕ → ℕ → List Pass
 covering d r from to = map (λ c. record { column = c; up = is_up d c }) (filter (λ c. covers d c r) (range_with_len from (to - from)))
 
+-- row r, with the columns that cover it
 abbrev pub lane : Diagram → ℕ → Lane
 lane d r = record {
   row = equation d r;
@@ -43,9 +44,11 @@ lane_walked t l colours outer =
     fold (λ (at : ShadowWalker) (p : Pass). shadow_stepped t p.up at (slice_index colours p.column))
     (record { colour = slice_index colours l.row.left_end; region = lane_region_start t.quandle l colours outer; sum = 0 }) l.passed.items
 
+-- the sum of the walk, or its negative where the row runs to the left
 abbrev pub lane_weight : ShadowCochain → Lane → List ℕ → ℕ → ℕ
 lane_weight t l colours outer =
     if l.rightward then (lane_walked t l colours outer).sum else (t.modulus - (lane_walked t l colours outer).sum) % t.modulus
 
+-- the sum of the weights of the lanes, mod the modulus
 abbrev pub weight_by_lanes : ShadowCochain → List Lane → List ℕ → ℕ → ℕ
 weight_by_lanes t lanes colours outer = sum_by (λ l. lane_weight t l colours outer) lanes % t.modulus

@@ -36,6 +36,7 @@ choices_of (Some (Regions s)) seeds = seeds + 1
 abbrev pub fits_by : Table → Option LargeWeighing → List Step → Bool
 fits_by t o plan = nat_le ((coloured_by t o).order ^ choices_of o (seeds_in plan)) MAX_CANDIDATES
 
+-- a cocycle, if there is one, has the laws of its kind
 abbrev pub IsCocycleOrNone : Option LargeWeighing → Type 0
 IsCocycleOrNone None = Unit {0}
 IsCocycleOrNone (Some (Strands w)) = IsCocycle w

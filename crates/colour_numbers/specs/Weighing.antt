@@ -12,5 +12,6 @@ pub record LaneIsWithin (n : ℕ) (l : Lane) : Type 0 where
   pub before : All (λ (p : Pass). p.column < n) l.before.items
   pub passed : All (λ (p : Pass). p.column < n) l.passed.items
 
+-- where a walk stands, as the definitions of weights have it
 abbrev pub walker_of : Standing → ShadowWalker
 walker_of at = record { colour = at.colour; region = at.region; sum = at.sum }

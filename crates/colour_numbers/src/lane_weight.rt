@@ -107,7 +107,7 @@ fn region_left(quandle: &Quandle, lane: &Lane, colours: &[u8], outer: u8) -> u8
     region
 }
 
-/// A walker behind a column of colour y.
+/// Where the walk stands behind a column of colour y.
 fn stepped(cocycle: &ShadowCocycle, up: bool, at: Standing, y: u8) -> Standing
     requires colours { (at.colour < cocycle.now.quandle.order) × (at.region < cocycle.now.quandle.order) × (y < cocycle.now.quandle.order) }
     requires sum { at.sum < cocycle.now.modulus }
@@ -121,7 +121,7 @@ fn stepped(cocycle: &ShadowCocycle, up: bool, at: Standing, y: u8) -> Standing
     }
 }
 
-/// A walker behind an up column of colour y: what the crossing has on the column's right-hand side lies behind it, and is taken away.
+/// Where the walk stands behind an up column of colour y: what the crossing has on the column's right-hand side lies behind it, and is taken away.
 fn stepped_up(cocycle: &ShadowCocycle, at: Standing, y: u8) -> Standing
     requires colours { (at.colour < cocycle.now.quandle.order) × (at.region < cocycle.now.quandle.order) × (y < cocycle.now.quandle.order) }
     requires sum { at.sum < cocycle.now.modulus }
@@ -141,7 +141,7 @@ fn stepped_up(cocycle: &ShadowCocycle, at: Standing, y: u8) -> Standing
     }
 }
 
-/// A walker behind a down column of colour y.
+/// Where the walk stands behind a down column of colour y: what the crossing has is added.
 fn stepped_down(cocycle: &ShadowCocycle, at: Standing, y: u8) -> Standing
     requires colours { (at.colour < cocycle.now.quandle.order) × (at.region < cocycle.now.quandle.order) × (y < cocycle.now.quandle.order) }
     requires sum { at.sum < cocycle.now.modulus }

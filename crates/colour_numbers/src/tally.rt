@@ -98,7 +98,7 @@ impl<'a, W: Weigher> Tally<'a, W> {
         }
     }
 
-    /// Counts them over each colour of a seed.
+    /// Counts the weights of the lists that the steps make of one with each colour of a seed, on top of what was counted before.
     #[cycle(tally)]
     fn tally_each(&self, steps: &[Step], colours: &Colours, column: u8, counts: &mut [u32])
         requires rows { self.now.rows.now ≡ map (equation self.now.grid.now) (range_with_len 0 (size self.now.grid.now)) }

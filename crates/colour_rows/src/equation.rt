@@ -95,7 +95,7 @@ impl Row {
         self.walk_by(&quandle.operations(), colours)
     }
 
-    /// The same by the operations of a quandle of up to `MAX_LARGE_ORDER` colours.
+    /// The last colour of the walk, by the operations of a quandle of up to `MAX_LARGE_ORDER` colours.
     pub fn walk_by(&self, quandle: &Operations, colours: &[u8]) -> u8
         requires within { self.now.right_end < length colours.now }
         requires below { All (λ y. y < quandle.now.order) colours.now }
@@ -119,7 +119,7 @@ impl Row {
         self.walk_back_by(&quandle.operations(), colours)
     }
 
-    /// The same by the operations of a quandle of up to `MAX_LARGE_ORDER` colours.
+    /// The last colour of the walk taken backwards, by the operations of a quandle of up to `MAX_LARGE_ORDER` colours.
     pub fn walk_back_by(&self, quandle: &Operations, colours: &[u8]) -> u8
         requires within { self.now.right_end < length colours.now }
         requires below { All (λ y. y < quandle.now.order) colours.now }

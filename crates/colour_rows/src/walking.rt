@@ -25,7 +25,7 @@ pub fn rightward(quandle: &Operations, up: bool, colour: u8, column: u8) -> u8
     }
 }
 
-/// The same by a quandle.
+/// What a colour becomes under a column, from left to right, by a quandle, as `rightward` says.
 pub fn passed_rightward(quandle: &Quandle, up: bool, colour: u8, column: u8) -> u8
     requires { (colour < quandle.now.order) × (column < quandle.now.order) }
     ensures is { result ≡ passed_rightward quandle.now up colour column }
@@ -46,7 +46,7 @@ pub fn leftward(quandle: &Operations, up: bool, colour: u8, column: u8) -> u8
     rightward(quandle, !up, colour, column)
 }
 
-/// The same by a quandle.
+/// What a colour becomes under a column, from right to left, by a quandle, as `leftward` says.
 pub fn passed_leftward(quandle: &Quandle, up: bool, colour: u8, column: u8) -> u8
     requires { (colour < quandle.now.order) × (column < quandle.now.order) }
     ensures is { result ≡ passed_leftward quandle.now up colour column }

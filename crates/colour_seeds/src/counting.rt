@@ -160,7 +160,7 @@ fn count_from(
     }
 }
 
-/// The same, over each colour of a seed.
+/// How many lists of colours the steps make of one, added up over each colour of a seed.
 #[cycle(count)]
 fn count_each(
     grid: &Grid,

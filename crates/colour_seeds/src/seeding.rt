@@ -109,7 +109,7 @@ struct Way {
     progress: Progress,
 }
 
-/// All that follows from the seeds.
+/// The steps by which the seeds settle all columns that they do settle, and what is known and read behind them.
 fn way_of(alloc: Global, grid: &Grid, seeds: &[u8]) -> Result<Way, AllocFailed<Step>>
     requires columns { All (λ s. s < size grid.now) seeds.now }
     ensures leads { IfOk result (λ w. LeadsBySteps grid.now nothing w.steps.items w.progress) }
@@ -153,7 +153,7 @@ fn seeded(grid: &Grid, way: Way, seed: u8) -> Result<Way, AllocFailed<Step>>
     settle(grid, begun)
 }
 
-/// All that follows from what is known.
+/// The way, with all steps that follow from what is known.
 fn settle(grid: &Grid, way: Way) -> Result<Way, AllocFailed<Step>>
     requires leads { LeadsBySteps grid.now nothing way.steps.items way.progress }
     ensures leads { IfOk result (λ w. LeadsBySteps grid.now nothing w.steps.items w.progress) }
@@ -170,7 +170,7 @@ fn settle(grid: &Grid, way: Way) -> Result<Way, AllocFailed<Step>>
     Ok(way)
 }
 
-/// One step more.
+/// The way with one step more.
 fn with_step(grid: &Grid, way: Way, step: Step) -> Result<Way, AllocFailed<Step>>
     requires { IsAllowed grid.now way.progress step }
     ensures steps { IfOk result (λ w. w.steps.items ≡ way.steps.items ++ step ∷ []) }

@@ -1,4 +1,4 @@
-//! The weighted walk of a row.
+//! The weighted walk of a row by a shadow cocycle, with the colour of the region on its right-hand side.
 ghost use Rattle.std.specs.Prelude.{◌≡◌, ◌<◌, ◌+◌, slice_index, if◌then◌else◌};
 ghost use Rattle.grid_core.specs.Diagram.{size};
 ghost use Rattle.grid_core.specs.Parts.{ends, covers, is_up, is_rightward};
@@ -20,7 +20,7 @@ pub struct ShadowWalker {
     pub sum: u8,
 }
 
-/// The weight of a row.
+/// The weight of a row by a shadow cocycle, with a colour of the outer region.
 pub(crate) fn row_weight(
     grid: &Grid,
     cocycle: &ShadowCocycle,

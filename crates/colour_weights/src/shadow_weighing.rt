@@ -21,8 +21,8 @@ use colour_rows::Colouring;
 use grid_core::Grid;
 use std::alloc::Global;
 
-/// The weight of a colouring by the cocycle's quandle with a colour of the outer region: the sum, mod the modulus, of the sign of each crossing times `θ(w, x, y)`,
-/// where y is the colour of the column, x that of the strand under it, on the right-hand side of the column, and w that of the region on the right-hand side of both.
+/// The weight of a colouring by the cocycle's quandle with a colour of the outer region: the sum, mod the modulus, of the sign of each crossing
+/// times `θ(w, x, y)`: y is the colour of the column, x that of the strand under it on the column's right-hand side, w that of the region there.
 ///
 /// Takes no memory.
 pub fn shadow_weight(grid: &Grid, cocycle: &ShadowCocycle, colours: &Colouring, outer: u8) -> u8
@@ -36,7 +36,7 @@ pub fn shadow_weight(grid: &Grid, cocycle: &ShadowCocycle, colours: &Colouring, 
     by_rows(grid, cocycle, colours, outer)
 }
 
-/// The weight, row by row.
+/// The weight of a colouring with a colour of the outer region: the sum of the weights of the rows, mod the modulus.
 fn by_rows(grid: &Grid, cocycle: &ShadowCocycle, colours: &Colouring, outer: u8) -> u8
     requires colouring { IsColouring cocycle.now.quandle grid.now colours.now.items }
     requires outer { outer < cocycle.now.quandle.order }
@@ -86,7 +86,7 @@ fn tally(grid: &Grid, cocycle: &ShadowCocycle, list: &[Colouring], counts: &mut 
     }
 }
 
-/// Counts them with one colour of the outer region, where they were counted with all lesser ones.
+/// Counts the weights of all colourings with one colour of the outer region, where they were counted with all lesser ones.
 fn tally_with(
     grid: &Grid,
     cocycle: &ShadowCocycle,

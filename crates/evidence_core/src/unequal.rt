@@ -29,7 +29,7 @@ fn is_same(one: u32, two: u32) -> bool
     one == two
 }
 
-/// The same of two lists of numbers that may be negative.
+/// The first place at which two lists of numbers that may be negative differ, or at which one of them has ended.
 pub(crate) fn first_unequal_of(given: &[i64], own: &[i64]) -> Option<usize>
     ensures { result ≡ first_unequal int_eq given.now own.now }
 {
@@ -48,7 +48,7 @@ pub(crate) fn first_unequal_of(given: &[i64], own: &[i64]) -> Option<usize>
     }
 }
 
-/// The same of two numbers that may be negative.
+/// Whether two numbers, which may be negative, are the same.
 fn is_same_of(one: i64, two: i64) -> bool
     ensures { result ≡ int_eq one two }
 {

@@ -10,14 +10,14 @@ use Rattle.knot_ports.specs.Status.{status_number}
 use Rattle.knot_ports.specs.declared.given.NoWords.{NoWords}
 use Rattle.knot_ports.specs.Given.{status_without_words}
 use Rattle.knot_jobs.specs.Call.{Call, call_of}
-use Rattle.knot_jobs.specs.Ending.{EndsJob}
+use Rattle.knot_jobs.specs.Ending.{EndsAnyCall}
 use Rattle.knot_jobs.specs.ReplyTruth.{TellsOnlyTruth}
 use Rattle.knot_words.specs.OptionNumbers.{texts_of}
 
 -- the call ended as is due with this status, and what was written with it is true
 pub record IsStatusOf (call : Call) (status : Status) : Type 0 where
   pub kept : Option Finding
-  pub ends : EndsJob call status kept
+  pub ends : EndsAnyCall call status kept
   pub truth : TellsOnlyTruth call status
 
 -- the exit status is the number of such a status

@@ -19,7 +19,7 @@ use Rattle.knot_jobs.specs.Call.{with_workers, Call, TakesAll, Comes, Loses}
 use Rattle.knot_words.specs.Limits.{limit_of, part_for}
 use Rattle.knot_jobs.specs.Answer.{leaves_no_choice, IsOver, IsNotOver, AnswersText, Answers}
 use Rattle.knot_ports.specs.Change.{Change, IsUntouched, Failed}
-use Rattle.knot_jobs.specs.Ending.{usage_line, IsReplyTo, IsAnswered, IsMisused, IsDue, IsCutOff, LosesInput, Writes, EndsJob}
+use Rattle.knot_jobs.specs.Ending.{usage_line, IsReplyTo, IsAnswered, IsMisused, IsDue, IsCutOff, LosesInput, Writes, EndsAnyCall}
 use Rattle.knot_jobs.specs.ReplyTruth.{IsTrueReply, IsTrueOf, TellsOnlyTruth, Goes}
 use Rattle.check_job.specs.Ports.{IsWritten}
 use Rattle.knot_jobs.specs.Delivered.{IsWithoutReply, IsMadeOf, IsDelivered, IsRefused, IsEnded}
@@ -27,22 +27,22 @@ use Rattle.knot_words.proofs.AskedOnce.{asked_once, never_both}
 use Rattle.knot_jobs.proofs.OneAnswer.{answer_status, answers_once, not_decide, by_so_many, not_over}
 
 pub usage_ends : (call : Call) (s : Status) → AsksNothing call.words → IsUntouched call.source → IsWritten call.sink usage_line status.Usage s
-    → EndsJob call s None
+    → EndsAnyCall call s None
 usage_ends call s refused source written =
     let usage : Reply = without_search (plain_reply status.Usage usage_line) in
     let misused : IsMisused call usage = record { refused = refused; source = source; is = refl } in
     elim written [
-      | inl whole ↦ subst (λ z. EndsJob call z None) (sym whole.0) (record { text = usage_line; is = misused; written = whole.1 })
-      | inr cut ↦ subst (λ z. EndsJob call z None) (sym cut.0) (record { failed = cut.1.0; reply = usage; due = inr misused; front = cut.1.1 }, refl)
+      | inl whole ↦ subst (λ z. EndsAnyCall call z None) (sym whole.0) (record { text = usage_line; is = misused; written = whole.1 })
+      | inr cut ↦ subst (λ z. EndsAnyCall call z None) (sym cut.0) (record { failed = cut.1.0; reply = usage; due = inr misused; front = cut.1.1 }, refl)
     ]
 
 -- the words are refused, or memory is wanting for them
 refused_ends : (call : Call) (fault : WordsFault) (s : Status) (kept : Option Finding) → (fault ≡ bad_words.Usage → AsksNothing call.words)
-    → IsUntouched call.source → IsRefused fault call.sink s → kept ≡ None → EndsJob call s kept
+    → IsUntouched call.source → IsRefused fault call.sink s → kept ≡ None → EndsAnyCall call s kept
 refused_ends call bad_words.Usage s kept usage source refused none =
-    subst (λ k. EndsJob call s k) (sym none) (usage_ends call s (usage refl) source refused)
+    subst (λ k. EndsAnyCall call s k) (sym none) (usage_ends call s (usage refl) source refused)
 refused_ends call bad_words.OutOfMemory s kept usage source refused none =
-    subst (λ z. EndsJob call z kept) (sym refused.0) ((inl source, refused.1), none)
+    subst (λ z. EndsAnyCall call z kept) (sym refused.0) ((inl source, refused.1), none)
 
 refused_truth : (call : Call) (fault : WordsFault) (s : Status) → (fault ≡ bad_words.Usage → AsksNothing call.words) → IsRefused fault call.sink s
     → TellsOnlyTruth call s
@@ -76,7 +76,7 @@ of_answer s is = elim is [
 ]
 
 written_ends : (call : Call) (s : Status) (kept : Option Finding) → is_of_answer s ≡ true → Writes (IsAnswered call) call s kept
-    → EndsJob call s kept
+    → EndsAnyCall call s kept
 written_ends call status.Done kept is writes = writes
 written_ends call status.Unknown kept is writes = writes
 written_ends call status.Rejected kept is writes = writes
@@ -88,7 +88,7 @@ written_ends call status.WriteFault kept is writes = absurd (let wrong : false �
 written_ends call status.OutOfMemory kept is writes = absurd (let wrong : false ≡ true = is in cc)
 
 pub answer_ends : (call : Call) (reply : Reply) (s : Status) (kept : Option Finding) → IsAnswered call reply → IsDelivered call.sink reply s kept
-    → EndsJob call s kept
+    → EndsAnyCall call s kept
 answer_ends call reply s kept a delivered = elim delivered [
   | inl whole ↦
       let same : reply ≡ record { status = s; text = reply.text; kept = kept } =
@@ -99,7 +99,7 @@ answer_ends call reply s kept a delivered = elim delivered [
       written_ends call s kept own (record { text = reply.text; is = b; written = whole.1 })
   | inr cut ↦
       let cut_off : IsCutOff call = record { failed = cut.1.0; reply = reply; due = inl a; front = cut.1.1 } in
-      subst (λ z. EndsJob call z kept) (sym cut.0.0) (cut_off, cut.0.1)
+      subst (λ z. EndsAnyCall call z kept) (sym cut.0.0) (cut_off, cut.0.1)
 ]
 
 -- and what it says is true
@@ -131,21 +131,21 @@ loses : (call : Call) (asked : Asked) (more : ℕ) → Asks call.words asked →
 loses call asked more asks lost = record { asked = asked; asks = asks; lost = lost }
 
 without_ends : (call : Call) (asked : Asked) (s : Status) → Asks call.words asked → IsWithoutReply (limit_of asked.job) call.source s
-    → IsUntouched call.sink → EndsJob call s None
+    → IsUntouched call.sink → EndsAnyCall call s None
 without_ends call asked s asks without sink = elim without [
-  | inl fault ↦ subst (λ z. EndsJob call z None) (sym fault.0) ((fault.1.0, loses call asked 0 asks fault.1.1, sink), refl)
+  | inl fault ↦ subst (λ z. EndsAnyCall call z None) (sym fault.0) ((fault.1.0, loses call asked 0 asks fault.1.1, sink), refl)
   | inr memory ↦ elim memory.1 [
-    | inl source ↦ subst (λ z. EndsJob call z None) (sym memory.0) ((inl source, sink), refl)
-    | inr lost ↦ subst (λ z. EndsJob call z None) (sym memory.0) ((inr (loses call asked 1 asks lost), sink), refl)
+    | inl source ↦ subst (λ z. EndsAnyCall call z None) (sym memory.0) ((inl source, sink), refl)
+    | inr lost ↦ subst (λ z. EndsAnyCall call z None) (sym memory.0) ((inr (loses call asked 1 asks lost), sink), refl)
   ]
 ]
 
 ends_by : (call : Call) (asked : Asked) (reply : Result Reply Status) (s : Status) (kept : Option Finding) → Asks call.words asked
-    → IsMadeOf (with_workers call.searching asked) call.source reply → IsEnded call.sink reply s kept → EndsJob call s kept
+    → IsMadeOf (with_workers call.searching asked) call.source reply → IsEnded call.sink reply s kept → EndsAnyCall call s kept
 ends_by call asked (Ok r) s kept asks made ended =
     answer_ends call r s kept (record { asked = asked; asks = asks; answer = made.0 }) ended
 ends_by call asked (Err e) s kept asks made ended =
-    subst (λ k. EndsJob call s k) (sym ended.1) (subst (λ z. EndsJob call z None) (sym ended.0.0) (without_ends call asked e asks made ended.0.1))
+    subst (λ k. EndsAnyCall call s k) (sym ended.1) (subst (λ z. EndsAnyCall call z None) (sym ended.0.0) (without_ends call asked e asks made ended.0.1))
 
 tells_by : (call : Call) (asked : Asked) (reply : Result Reply Status) (s : Status) (kept : Option Finding) → Asks call.words asked
     → IsMadeOf (with_workers call.searching asked) call.source reply → IsEnded call.sink reply s kept → TellsOnlyTruth call s
@@ -249,7 +249,7 @@ writes_answer call asked bytes s kept asks left e =
     let reply : Reply = record { status = s; text = e.text; kept = kept } in
     (e.text, whole_by (limit_of asked.job) (with_workers call.searching asked) bytes reply (front_answered call asked bytes reply asks left e.is))
 
-pub ends_with_answer : (call : Call) (asked : Asked) (bytes : List ℕ) (s : Status) (kept : Option Finding) → EndsJob call s kept → Asks call.words asked
+pub ends_with_answer : (call : Call) (asked : Asked) (bytes : List ℕ) (s : Status) (kept : Option Finding) → EndsAnyCall call s kept → Asks call.words asked
     → call.source.before ≡ Some bytes → (Failed call.source → ⊥) → (Failed call.sink → ⊥)
     → HasAnswer (with_workers call.searching asked) bytes s kept ⊎ (s ≡ status.OutOfMemory)
 ends_with_answer call asked bytes status.Done kept e asks left calm quiet = inl (writes_answer call asked bytes status.Done kept asks left e)
@@ -262,7 +262,7 @@ ends_with_answer call asked bytes status.Usage kept e asks left calm quiet = abs
 ends_with_answer call asked bytes status.ReadFault kept e asks left calm quiet = absurd (calm e.0.0)
 ends_with_answer call asked bytes status.WriteFault kept e asks left calm quiet = absurd (quiet e.0.failed)
 
-pub ends_with_usage : (call : Call) (s : Status) (kept : Option Finding) → EndsJob call s kept → AsksNothing call.words → (Failed call.sink → ⊥)
+pub ends_with_usage : (call : Call) (s : Status) (kept : Option Finding) → EndsAnyCall call s kept → AsksNothing call.words → (Failed call.sink → ⊥)
     → (s ≡ status.Usage) ⊎ (s ≡ status.OutOfMemory)
 ends_with_usage call status.Done kept e none quiet = absurd (never_both call.words e.is.asked e.is.asks none)
 ends_with_usage call status.Unknown kept e none quiet = absurd (never_both call.words e.is.asked e.is.asks none)

@@ -65,9 +65,9 @@ pub record LosesInput (call : Call) (more : ℕ) : Type 0 where
 
 -- how a call that ends with this status went, and what it keeps: a search only behind a reply that was written. The last line
 -- is that of the jobs' answers: Done, Unknown, Rejected, Malformed and Limit
-abbrev pub EndsJob : Call → Status → Option Finding → Type 0
-EndsJob call status.Usage kept = Writes (IsMisused call) call status.Usage kept
-EndsJob call status.ReadFault kept = (Failed call.source × LosesInput call 0 × IsUntouched call.sink) × (kept ≡ None)
-EndsJob call status.WriteFault kept = IsCutOff call × (kept ≡ None)
-EndsJob call status.OutOfMemory kept = ((IsUntouched call.source ⊎ LosesInput call 1) × IsUntouched call.sink) × (kept ≡ None)
-EndsJob call s kept = Writes (IsAnswered call) call s kept
+abbrev pub EndsAnyCall : Call → Status → Option Finding → Type 0
+EndsAnyCall call status.Usage kept = Writes (IsMisused call) call status.Usage kept
+EndsAnyCall call status.ReadFault kept = (Failed call.source × LosesInput call 0 × IsUntouched call.sink) × (kept ≡ None)
+EndsAnyCall call status.WriteFault kept = IsCutOff call × (kept ≡ None)
+EndsAnyCall call status.OutOfMemory kept = ((IsUntouched call.source ⊎ LosesInput call 1) × IsUntouched call.sink) × (kept ≡ None)
+EndsAnyCall call s kept = Writes (IsAnswered call) call s kept

@@ -20,7 +20,7 @@ use Rattle.knot_words.specs.Limits.{limit_of}
 use Rattle.knot_jobs.specs.Answer.{IsNotOver}
 use Rattle.knot_ports.specs.Change.{Change}
 use Rattle.knot_jobs.specs.Call.{Call, TakesAll}
-use Rattle.knot_jobs.specs.Ending.{EndsJob}
+use Rattle.knot_jobs.specs.Ending.{EndsAnyCall}
 
 -- ---- a verdict that was written
 
@@ -59,5 +59,5 @@ TellsOnlyTruth call s = (asked : Asked) → Asks call.words asked → s ≡ stat
 
 -- how a call goes that has this status and keeps this search: it ends as is due, and tells only truth
 pub record Goes (call : Call) (s : Status) (kept : Option Finding) : Type 0 where
-  pub ends : EndsJob call s kept
+  pub ends : EndsAnyCall call s kept
   pub truth : TellsOnlyTruth call s

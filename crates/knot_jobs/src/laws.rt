@@ -8,7 +8,7 @@ ghost use Rattle.knot_words.specs.Limits.{limit_of, part_for};
 ghost use Rattle.knot_jobs.specs.Answer.{leaves_no_choice, IsNotOver, IsInShape, IsBeyondColumns, Answers};
 ghost use Rattle.knot_ports.specs.Change.{Failed};
 ghost use Rattle.knot_jobs.specs.Call.{Call, with_workers};
-ghost use Rattle.knot_jobs.specs.Ending.{IsDue, EndsJob};
+ghost use Rattle.knot_jobs.specs.Ending.{IsDue, EndsAnyCall};
 ghost use Rattle.knot_jobs.specs.ReplyTruth.{IsAcceptedByCheck};
 
 use knot_ports::Status;
@@ -48,14 +48,14 @@ pub fn the_words_and_the_input_decide()
 /// Where no count of faults rose, a call ends with the status of an answer that the job has to its input, and keeps the search
 /// behind it, or with the usage line where the words ask for nothing; or memory was wanting.
 pub fn a_call_without_faults_ends_with_what_is_due()
-    ensures answer { (call : Call) (asked : Asked) (bytes : List ℕ) (s : Status) (kept : Option Finding) → EndsJob call s kept
+    ensures answer { (call : Call) (asked : Asked) (bytes : List ℕ) (s : Status) (kept : Option Finding) → EndsAnyCall call s kept
         → Asks call.words asked
         → call.source.before ≡ Some bytes
         → (Failed call.source → ⊥)
         → (Failed call.sink → ⊥)
         → ((text : List ℕ) × Answers (with_workers call.searching asked) (part_for asked.job bytes) (record { status = s; text = text; kept = kept }))
         ⊎ (s ≡ Status.OutOfMemory) }
-    ensures usage { (call : Call) (s : Status) (kept : Option Finding) → EndsJob call s kept
+    ensures usage { (call : Call) (s : Status) (kept : Option Finding) → EndsAnyCall call s kept
         → AsksNothing call.words
         → (Failed call.sink → ⊥)
         → (s ≡ Status.Usage) ⊎ (s ≡ Status.OutOfMemory) }

@@ -55,7 +55,7 @@ impl<R: Read + Drop> StdSource<R> {
         self.error.as_ref()
     }
 
-    /// The same.
+    /// The last error, given away.
     pub fn into_error(self) -> Option<io::Error> {
         self.error
     }
@@ -151,7 +151,7 @@ impl<W: Write + Drop> StdSink<W> {
         self.error.as_ref()
     }
 
-    /// The same, which is kept no longer.
+    /// The error of the last fault, given away: it is kept no longer.
     pub fn take_error(&mut self) -> Option<io::Error>
         ensures { self.new ≡ self.old }
     {

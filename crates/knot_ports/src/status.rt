@@ -46,7 +46,7 @@ impl Status {
         }
     }
 
-    /// The same, as a process ends with it.
+    /// The exit status of the program, as a process ends with it.
     pub fn exit_code(&self) -> ExitCode
         ensures { exit_status result ≡ status_number self.now }
     {

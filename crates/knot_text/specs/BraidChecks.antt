@@ -16,6 +16,6 @@ braidcheck_in text = do
   end ← text_end steps.1
   Ok (record { first = first.0; second = second.0; steps = steps.0 })
 
--- the same of bytes
+-- two braids and steps, from the bytes of a text
 abbrev pub braidcheck_of : List ℕ → Result BraidCheckText TextFault
 braidcheck_of bytes = braidcheck_in (text_of bytes)

@@ -14,6 +14,6 @@ pair_in text = do
   end ← text_end second.1
   Ok (first.0, second.0)
 
--- the same of bytes
+-- two diagrams, from the bytes of a text
 abbrev pub pair_of : List ℕ → Result (Diagram × Diagram) TextFault
 pair_of bytes = pair_in (text_of bytes)

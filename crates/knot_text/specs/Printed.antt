@@ -184,7 +184,7 @@ pub record HasQuandleTextWithin (most : ℕ) (q : NamedQuandle) : Type 0 where
   pub names : NamesWithin most q.name q.table
   pub factor : HasFactor q.name
 
--- the same where the order is at most MAX_ORDER
+-- the name gives the quandle, whose order is at most MAX_ORDER
 abbrev pub HasQuandleText : NamedQuandle → Type 0
 HasQuandleText = HasQuandleTextWithin MAX_ORDER
 

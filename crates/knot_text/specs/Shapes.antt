@@ -46,7 +46,7 @@ lone_diagram_in text = do
   end ← text_end diagram.1
   Ok diagram.0
 
--- the same of bytes
+-- what each of these is read as, from the bytes of a text
 abbrev pub replay_of : List ℕ → Result ReplayText TextFault
 replay_of bytes = replay_in (text_of bytes)
 

@@ -18,6 +18,6 @@ weight_in text = do
   end ← text_end cocycle.1
   Ok (record { first = first.0; second = second.0; listed = listed.0; cocycle = cocycle.0 })
 
--- the same of bytes
+-- two diagrams, a quandle and a 2-cocycle of it, from the bytes of a text
 abbrev pub weight_of : List ℕ → Result WeightText TextFault
 weight_of bytes = weight_in (text_of bytes)

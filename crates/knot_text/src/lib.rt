@@ -1,4 +1,4 @@
-//! The texts of the workbench, both ways: whole inputs and verdicts are read, and what the programs answer is printed.
+//! Texts of jobs, both ways: inputs are read, but for problems and verdicts (verdict_text), and what the programs answer is printed.
 //! A text is read exactly as its definition says, or refused at its first bad line, and what is printed is read back.
 #![tactic(auto)]
 

@@ -197,7 +197,8 @@ pub fn push_quandle(out: &mut Vec<u8>, word: &[u8], listed: &Listed) -> Result<(
     push_named(out, word, listed.name(), &quandle)
 }
 
-/// The same of a quandle that may be larger. Where memory is wanting, a part of it may have been appended.
+/// Appends a line of a word and the name of a quandle of up to `MAX_LARGE_ORDER` colours, and behind it the lines of a table.
+/// Where memory is wanting, a part of it may have been appended.
 pub fn push_large(out: &mut Vec<u8>, word: &[u8], listed: &LargeListed) -> Result<(), AllocError>
     ensures text { OnOk result (out.new.items ≡ out.old.items ++ lines_text (quandle_lines word.now listed.now)) }
     ensures part { OnErr result (AppendsPart out.old.items out.new.items (lines_text (quandle_lines word.now listed.now))) }
@@ -206,7 +207,7 @@ pub fn push_large(out: &mut Vec<u8>, word: &[u8], listed: &LargeListed) -> Resul
     push_named(out, word, listed.name(), &quandle)
 }
 
-/// The same of a name and the operations of its quandle.
+/// Appends a line of a word and a name, and behind it, where the name is that of a table, the lines of these operations.
 fn push_named(
     out: &mut Vec<u8>,
     word: &[u8],

@@ -6,7 +6,8 @@ use Rattle.std.proofs.lemmas.Option.{slice_get_within, get_or_from_slice_get}
 use Rattle.std.proofs.Math.ListN.{get_or-append}
 use Rattle.grid_core.specs.Diagram.{Diagram, IsGrid, size}
 use Rattle.grid_moves.specs.declared.step.Move.{Move}
-use Rattle.grid_moves.specs.declared.step.Move.TheVariants.{ShiftColumns, ShiftRows, ExchangeColumns, ExchangeRows, SlideColumns, SlideRows, Stabilise, Destabilise}
+use Rattle.grid_moves.specs.declared.step.Move.TheVariants.{ShiftColumns, ShiftRows, ExchangeColumns, ExchangeRows, SlideColumns, SlideRows, Stabilise}
+use Rattle.grid_moves.specs.declared.step.Move.TheVariants.{Destabilise}
 use Rattle.grid_moves.specs.Step.{Step}
 use Rattle.grid_moves.specs.Joining.{Joins}
 use Rattle.grid_moves.proofs.Within.{joins_grid}

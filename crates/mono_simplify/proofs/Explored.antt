@@ -1,5 +1,6 @@
 -- A listing up to a budget, turn by turn.
-use Rattle.std.proofs.Common.{◌≡◌, ◌<◌, ◌≤◌, ◌+◌, ◌++◌, ◌∷◌, ◌∙◌, [], ℕ, suc, List, Bool, true, false, length, take, nat_lt, get_or, slice_get, Some, append_assoc, arith, sym, refl, ap, subst}
+use Rattle.std.proofs.Common.{◌≡◌, ◌<◌, ◌≤◌, ◌+◌, ◌++◌, ◌∷◌, ◌∙◌, [], ℕ, suc, List, Bool, true, false, length, take, nat_lt, get_or, slice_get, Some}
+use Rattle.std.proofs.Common.{append_assoc, arith, sym, refl, ap, subst}
 use Rattle.std.specs.List.{All}
 use Rattle.std.proofs.lemmas.Bool.{lt-ltb, ltb-false, le-ltb, ltb-true}
 use Rattle.std.proofs.lemmas.List.{take_all, take_more, length-append, take-append-le}
@@ -14,7 +15,8 @@ use Rattle.next_moves.specs.declared.links.Offer.{Offer}
 use Rattle.grid_moves.specs.Kinds.{is_exchange}
 use Rattle.next_moves.specs.Offers.{IsOfferList, exchanges_among}
 use Rattle.mono_simplify.specs.ExchangeClass.{IsIrreducible}
-use Rattle.mono_simplify.specs.Listing.{has_key, with_keys, IsExchangeList, Grows, IsListed, IsListing, NoTranslateDestabilises, HasAtMost, HasMoreAndNoneSmaller}
+use Rattle.mono_simplify.specs.Listing.{has_key, with_keys, IsExchangeList, Grows, IsListed, IsListing, NoTranslateDestabilises, HasAtMost}
+use Rattle.mono_simplify.specs.Listing.{HasMoreAndNoneSmaller}
 use Rattle.mono_simplify.specs.Ways.{IsExplored}
 use Rattle.mono_simplify.proofs.Keys.{begun, more_new}
 use Rattle.mono_simplify.proofs.Listed.{IsMember, listed_members}

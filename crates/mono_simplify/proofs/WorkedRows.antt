@@ -5,7 +5,8 @@ use Rattle.grid_core.specs.declared.mark.Kind.TheVariants.{Cross}
 use Rattle.grid_core.specs.declared.mark.Corner.TheVariants.{LowLeft}
 use Rattle.grid_core.specs.Trefoils.{left_trefoil}
 use Rattle.grid_laws.proofs.WorkedDiagrams.{unknot}
-use Rattle.grid_moves.specs.declared.step.Move.TheVariants.{ShiftColumns, ShiftRows, ExchangeColumns, ExchangeRows, SlideColumns, SlideRows, Stabilise, Destabilise}
+use Rattle.grid_moves.specs.declared.step.Move.TheVariants.{ShiftColumns, ShiftRows, ExchangeColumns, ExchangeRows, SlideColumns, SlideRows, Stabilise}
+use Rattle.grid_moves.specs.declared.step.Move.TheVariants.{Destabilise}
 use Rattle.grid_keys.specs.Key.{key_of}
 use Rattle.next_moves.specs.Tries.{exchange_tries, all_block_tries}
 use Rattle.next_moves.specs.Offers.{is_offered}

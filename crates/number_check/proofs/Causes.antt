@@ -1,5 +1,6 @@
 -- What a cause of one diagram, or none, says.
-use Rattle.std.proofs.Common.{◌≡◌, ◌<◌, ◌≤◌, ◌+◌, ◌^◌, ◌∙◌, inl, inr, ℕ, Bool, true, false, List, Option, Some, None, length, slice_index, IfSome, refl, sym, ap, cond, subst, arith}
+use Rattle.std.proofs.Common.{◌≡◌, ◌<◌, ◌≤◌, ◌+◌, ◌^◌, ◌∙◌, inl, inr, ℕ, Bool, true, false, List, Option, Some, None, length, slice_index, IfSome, refl, sym}
+use Rattle.std.proofs.Common.{ap, cond, subst, arith}
 use Rattle.std.specs.Prelude.{nat_le, nat_eq}
 use Rattle.std.proofs.lemmas.Bool.{leb-true, le-leb, eqb-true}
 use Rattle.std.proofs.Math.Nat.{pow-le-pow_right}

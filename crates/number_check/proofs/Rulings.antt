@@ -14,7 +14,7 @@ use Rattle.evidence_core.specs.declared.cause.NumberRuling.TheVariants.{Accepted
 use Rattle.evidence_core.specs.declared.cause.Cause.{Cause}
 use Rattle.number_check.specs.EvidenceHolds.{NumbersDiffer, EvidenceHolds}
 use Rattle.number_check.specs.Cause.{IsEvidenceCause}
-use Rattle.number_check.specs.Ruling.{RulesOnNumbers}
+use Rattle.number_check.specs.Ruling.{RulesOnEvidence}
 use Rattle.number_check.proofs.Causes.{numbers_have_no_cause}
 use Rattle.evidence_core.proofs.LinksOfGrids.{links_have_no_cause}
 
@@ -39,7 +39,7 @@ not_held d e (Linking one two) c is holds =
     let no : ◌≡◌ {A = Option Cause} None (Some c) = sym (links_have_no_cause d e one two holds) ∙ is in
     cc
 
-pub accepted_where_held : (d e : Diagram) (evidence : Evidence) (ruling : NumberRuling) → RulesOnNumbers d e evidence ruling
+pub accepted_where_held : (d e : Diagram) (evidence : Evidence) (ruling : NumberRuling) → RulesOnEvidence d e evidence ruling
     → (ruling ≡ Accepted) ↔ EvidenceHolds d e evidence
 accepted_where_held d e evidence Accepted rules = ((λ is. rules), (λ holds. refl))
 accepted_where_held d e evidence (Rejected c) rules = ((λ is. absurd cc), (λ holds. absurd (not_held d e evidence c rules holds)))

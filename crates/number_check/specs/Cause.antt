@@ -36,6 +36,7 @@ settled_cause b which d seeds numbers = or_else (wide_seeds b which seeds) (plac
 abbrev pub counts_cause : Block → ℕ → Diagram → Counted → Option Cause
 counts_cause b which d c = settled_cause b which d (length c.seeds.items) c.numbers
 
+-- the first cause for which what is said of a diagram's numbers does not hold: that of its seeds, else that of the numbers
 abbrev pub IsCauseOf : Block → ℕ → Diagram → Counted → Cause → Type 0
 IsCauseOf b which d c cause = IsSeedCause which d c.seeds.items cause ⊎ (Determine c.seeds.items d × (counts_cause b which d c ≡ Some cause))
 

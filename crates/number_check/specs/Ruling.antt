@@ -7,6 +7,6 @@ use Rattle.number_check.specs.EvidenceHolds.{EvidenceHolds}
 use Rattle.number_check.specs.Cause.{IsEvidenceCause}
 
 -- evidence is accepted where it holds, else rejected for the first cause
-abbrev pub RulesOnNumbers : Diagram → Diagram → Evidence → NumberRuling → Type 0
-RulesOnNumbers d e evidence Accepted = EvidenceHolds d e evidence
-RulesOnNumbers d e evidence (Rejected cause) = IsEvidenceCause d e evidence cause
+abbrev pub RulesOnEvidence : Diagram → Diagram → Evidence → NumberRuling → Type 0
+RulesOnEvidence d e evidence Accepted = EvidenceHolds d e evidence
+RulesOnEvidence d e evidence (Rejected cause) = IsEvidenceCause d e evidence cause

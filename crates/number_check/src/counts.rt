@@ -34,7 +34,7 @@ pub(crate) fn cause_of_counts(
     }
 }
 
-/// The same by a plan of the seeds, which settle the diagram.
+/// Why what is said of the numbers of a diagram does not hold, by a plan of its seeds, which settle the diagram.
 fn cause_by(
     alloc: Global,
     which: u8,
@@ -49,7 +49,7 @@ fn cause_by(
     ensures some { IfOk result (λ o. IfSome o (λ cause. IsCauseOf block.now which grid.now counted.now cause)) }
     ensures none { IfOk result (λ o. o ≡ None → AreNumbersOf block.now grid.now counted.now) }
 {
-    let given = cause_settled(
+    let given = settled_cause(
         alloc,
         which,
         grid,
@@ -63,7 +63,7 @@ fn cause_by(
 
 /// Why numbers are not shown to be those of a diagram by seeds, of which this is a plan: they have too many choices of colours, or else the
 /// numbers and its own first differ at a place. `None` where they are its own. It counts the diagram's colourings once.
-pub fn cause_settled(
+pub fn settled_cause(
     alloc: Global,
     which: u8,
     grid: &Grid,

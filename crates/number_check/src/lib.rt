@@ -5,6 +5,6 @@
 mod counts;
 mod ruling;
 
-pub use counts::{cause_settled, colouring_quandle, numbers_by};
+pub use counts::{colouring_quandle, numbers_by, settled_cause};
 pub use evidence_core::{Cause, NumberRuling, are_same, linked_of};
 pub use ruling::{laws_of, rule};

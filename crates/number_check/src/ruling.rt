@@ -5,7 +5,7 @@ ghost use Rattle.quandle_core.specs.Quandle.{IsQuandle};
 ghost use Rattle.colour_numbers.specs.Numbers.{IsCocycleOrNone};
 ghost use Rattle.evidence_core.specs.declared.evidence.Evidence.TheVariants.{Numbers, Linking};
 ghost use Rattle.number_check.specs.EvidenceHolds.{EvidenceHolds};
-ghost use Rattle.number_check.specs.Ruling.{RulesOnNumbers};
+ghost use Rattle.number_check.specs.Ruling.{RulesOnEvidence};
 
 use crate::counts::cause_of_counts;
 use evidence_core::{
@@ -25,7 +25,7 @@ pub fn rule(
     second: &Grid,
     evidence: &Evidence,
 ) -> Result<NumberRuling, OutOfMemory>
-    ensures ruling { IfOk result (λ r. RulesOnNumbers first.now second.now evidence.now r) }
+    ensures ruling { IfOk result (λ r. RulesOnEvidence first.now second.now evidence.now r) }
     ensures accepted { IfOk result (λ r. (r ≡ NumberRuling.Accepted) ↔ EvidenceHolds first.now second.now evidence.now) }
     ensures apart { IfOk result (λ r. r ≡ NumberRuling.Accepted → Equivalent first.now second.now → ⊥) }
 {
@@ -40,7 +40,7 @@ fn ruled(
     second: &Grid,
     evidence: &Evidence,
 ) -> Result<NumberRuling, OutOfMemory>
-    ensures ruling { IfOk result (λ r. RulesOnNumbers first.now second.now evidence.now r) }
+    ensures ruling { IfOk result (λ r. RulesOnEvidence first.now second.now evidence.now r) }
     ensures apart { IfOk result (λ r. r ≡ NumberRuling.Accepted → Equivalent first.now second.now → ⊥) }
 {
     match evidence {
@@ -65,7 +65,7 @@ fn rule_counts(
     one: &Counted,
     two: &Counted,
 ) -> Result<NumberRuling, OutOfMemory>
-    ensures ruling { IfOk result (λ r. RulesOnNumbers first.now second.now (Numbers block.now one.now two.now) r) }
+    ensures ruling { IfOk result (λ r. RulesOnEvidence first.now second.now (Numbers block.now one.now two.now) r) }
     ensures apart { IfOk result (λ r. r ≡ NumberRuling.Accepted → Equivalent first.now second.now → ⊥) }
 {
     laws_of(block);
@@ -108,7 +108,7 @@ fn rule_links(
     one: &Linked,
     two: &Linked,
 ) -> Result<NumberRuling, OutOfMemory>
-    ensures ruling { IfOk result (λ r. RulesOnNumbers first.now second.now (Linking one.now two.now) r) }
+    ensures ruling { IfOk result (λ r. RulesOnEvidence first.now second.now (Linking one.now two.now) r) }
     ensures apart { IfOk result (λ r. r ≡ NumberRuling.Accepted → Equivalent first.now second.now → ⊥) }
 {
     match cause_of_links(alloc, first, second, one, two)? {

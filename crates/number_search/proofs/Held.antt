@@ -1,5 +1,6 @@
 -- What is found holds.
-use Rattle.std.proofs.Common.{◌≡◌, ◌≢◌, ◌≤◌, ◌^◌, ◌∙◌, ◌&&◌, ◌==◌, not, ℕ, Bool, true, false, List, [], ◌∷◌, Option, Some, None, length, cond, refl, sym, ap, ap₂, subst}
+use Rattle.std.proofs.Common.{◌≡◌, ◌≢◌, ◌≤◌, ◌^◌, ◌∙◌, ◌&&◌, ◌==◌, not, ℕ, Bool, true, false, List, [], ◌∷◌, Option, Some, None, length, cond, refl, sym, ap}
+use Rattle.std.proofs.Common.{ap₂, subst}
 use Rattle.std.specs.Prelude.{nat_eq}
 use Rattle.std.specs.List.{All, AllByRecursion}
 use Rattle.std.specs.Option.{option_or, option_map}
@@ -49,7 +50,8 @@ links_differ d e one two is also other =
 pub linking_holds : (d e : Diagram) (evidence : Evidence) → told_by_linking d e ≡ Some evidence → EvidenceHolds d e evidence
 linking_holds d e evidence is = by (are_same_links (linked_of d) (linked_of e)) refl is
   where
-    by : (t : Bool) → are_same_links (linked_of d) (linked_of e) ≡ t → cond t None (Some (Evidence.Linking (linked_of d) (linked_of e))) ≡ Some evidence → EvidenceHolds d e evidence
+    by : (t : Bool) → are_same_links (linked_of d) (linked_of e) ≡ t → cond t None (Some (Evidence.Linking (linked_of d) (linked_of e))) ≡ Some evidence
+        → EvidenceHolds d e evidence
     by true same is = absurd cc
     by false other is =
         let found : Evidence.Linking (linked_of d) (linked_of e) ≡ evidence = cc in

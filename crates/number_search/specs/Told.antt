@@ -53,7 +53,7 @@ counted_by_plan plan numbers = record { seeds = record { items = seed_columns pl
 abbrev pub evidence_by : Diagram → Diagram → SeedPair → Block → Evidence
 evidence_by d e s b = Numbers b (counted_by_plan s.first (numbers_by b d)) (counted_by_plan s.second (numbers_by b e))
 
--- the same by the first block that tells them apart
+-- the numbers of both diagrams by the first block that tells them apart
 abbrev pub told_by_blocks : Diagram → Diagram → SeedPair → List Block → Option Evidence
 told_by_blocks d e s blocks = option_map (evidence_by d e s) (first_telling d e s blocks)
 

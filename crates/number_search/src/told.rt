@@ -2,7 +2,7 @@
 ghost use Rattle.std.specs.Prelude.{◌≡◌, ◌∷◌, [], count_by, IfOk, IfSome};
 ghost use Rattle.grid_moves.specs.Joining.{Equivalent};
 ghost use Rattle.evidence_core.specs.declared.cause.NumberRuling.TheVariants.{Accepted};
-ghost use Rattle.number_check.specs.Ruling.{RulesOnNumbers};
+ghost use Rattle.number_check.specs.Ruling.{RulesOnEvidence};
 ghost use Rattle.number_search.specs.Told.{ArePlansOf, fits_both, counted_by_plan, evidence_by, told_by_linking, told_by_blocks, told_apart};
 
 use crate::copied::copied;
@@ -26,7 +26,7 @@ pub fn tell_apart(
 ) -> Result<Option<Evidence>, OutOfMemory>
     requires plans { ArePlansOf first.now second.now seeds.now }
     ensures evidence { IfOk result (λ o. o ≡ told_apart first.now second.now seeds.now blocks.now) }
-    ensures accepted { IfOk result (λ o. IfSome o (λ e. RulesOnNumbers first.now second.now e Accepted)) }
+    ensures accepted { IfOk result (λ o. IfSome o (λ e. RulesOnEvidence first.now second.now e Accepted)) }
     ensures apart { IfOk result (λ o. IfSome o (λ e. Equivalent first.now second.now → ⊥)) }
 {
     let linking = tell_apart_by_linking(alloc, first, second)?;
@@ -43,7 +43,7 @@ pub fn tell_apart_by_linking(
     second: &Grid,
 ) -> Result<Option<Evidence>, OutOfMemory>
     ensures evidence { IfOk result (λ o. o ≡ told_by_linking first.now second.now) }
-    ensures accepted { IfOk result (λ o. IfSome o (λ e. RulesOnNumbers first.now second.now e Accepted)) }
+    ensures accepted { IfOk result (λ o. IfSome o (λ e. RulesOnEvidence first.now second.now e Accepted)) }
     ensures apart { IfOk result (λ o. IfSome o (λ e. Equivalent first.now second.now → ⊥)) }
 {
     let one = linked_of(alloc, first)?;
@@ -68,7 +68,7 @@ pub fn tell_apart_by_blocks(
 ) -> Result<Option<Evidence>, OutOfMemory>
     requires plans { ArePlansOf first.now second.now seeds.now }
     ensures evidence { IfOk result (λ o. o ≡ told_by_blocks first.now second.now seeds.now blocks.now) }
-    ensures accepted { IfOk result (λ o. IfSome o (λ e. RulesOnNumbers first.now second.now e Accepted)) }
+    ensures accepted { IfOk result (λ o. IfSome o (λ e. RulesOnEvidence first.now second.now e Accepted)) }
     ensures apart { IfOk result (λ o. IfSome o (λ e. Equivalent first.now second.now → ⊥)) }
 {
     for block in blocks {
@@ -90,7 +90,7 @@ fn told_by_block(
 ) -> Result<Option<Evidence>, OutOfMemory>
     requires plans { ArePlansOf first.now second.now seeds.now }
     ensures evidence { IfOk result (λ o. o ≡ told_by_blocks first.now second.now seeds.now (block.now ∷ [])) }
-    ensures accepted { IfOk result (λ o. IfSome o (λ e. RulesOnNumbers first.now second.now e Accepted)) }
+    ensures accepted { IfOk result (λ o. IfSome o (λ e. RulesOnEvidence first.now second.now e Accepted)) }
     ensures apart { IfOk result (λ o. IfSome o (λ e. Equivalent first.now second.now → ⊥)) }
 {
     let _first = first.size();

@@ -9,11 +9,13 @@ use Rattle.number_text.specs.Shadows.{shadow_item}
 use Rattle.evidence_core.specs.declared.blocks.LargeWeighing.{LargeWeighing}
 use Rattle.evidence_core.specs.declared.blocks.LargeWeighing.TheVariants.{Strands, Regions}
 
+-- a 2-cocycle, as what stands behind a block's quandle
 abbrev pub some_strands : Table → Text → Result (Option LargeWeighing × Text) TextFault
 some_strands quandle text = do
   cocycle ← cocycle_item quandle text
   Ok (Some (Strands cocycle.0), cocycle.1)
 
+-- a shadow cocycle, as what stands behind a block's quandle
 abbrev pub some_regions : Table → Text → Result (Option LargeWeighing × Text) TextFault
 some_regions quandle text = do
   shadow ← shadow_item quandle text

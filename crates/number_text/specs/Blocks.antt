@@ -18,7 +18,7 @@ block_quandle most text = do
   rest ← word (codes "quandle") line.0
   quandle_at most rest line.1
 
--- the same, and perhaps a cocycle of it
+-- a quandle, of an order of at most the first number where it is by a table, and perhaps a cocycle of it
 unfoldable pub block_item : ℕ → Text → Result (Block × Text) TextFault
 block_item most text = do
   quandle ← block_quandle most text
@@ -52,7 +52,7 @@ abbrev pub or_built_in_blocks : List Block → List Block
 or_built_in_blocks [] = map alone built_in
 or_built_in_blocks (block ∷ blocks) = block ∷ blocks
 
--- the same of at most MAX_QUANDLES, of orders of at most MAX_LARGE_ORDER
+-- at most MAX_QUANDLES blocks, by tables of orders of at most MAX_LARGE_ORDER, or the built-in quandles where there are none
 unfoldable pub block_list : Text → Result (List Block × Text) TextFault
 block_list text = do
   listed ← blocks MAX_LARGE_ORDER MAX_QUANDLES text
@@ -60,13 +60,13 @@ block_list text = do
 
 -- ---- a text of blocks alone
 
--- the blocks, of orders of at most MAX_LARGE_ORDER, and nothing behind them
+-- the blocks, by tables of orders of at most MAX_LARGE_ORDER, and nothing behind them
 unfoldable pub blocks_in : Text → Result (List Block) TextFault
 blocks_in text = do
   listed ← blocks MAX_LARGE_ORDER MAX_QUANDLES text
   end ← text_end listed.1
   Ok listed.0
 
--- the same of bytes
+-- the blocks of a text, from its bytes
 abbrev pub blocks_of : List ℕ → Result (List Block) TextFault
 blocks_of bytes = blocks_in (text_of bytes)

@@ -36,6 +36,7 @@ numbers_line_at count line = do
   values ← line_numbers rest
   if list_any is_long values then Err (Limit rest.number) else if length values == count then Ok values else Err (Malformed rest.number)
 
+-- the seeds of a diagram, and behind them so many numbers
 unfoldable pub seeded_numbers_item : ℕ → Text → Result (Counted × Text) TextFault
 seeded_numbers_item count text = do
   one ← next_line text
@@ -61,6 +62,7 @@ numbers_evidence line text = do
 
 -- ---- linking numbers
 
+-- `components`, and a number
 unfoldable pub components_at : NumberedLine → Result ℕ TextFault
 components_at line = do
   rest ← word (codes "components") line
@@ -73,6 +75,7 @@ letters_at line = do
   values ← letters rest
   if list_any is_long_letter values then Err (Limit rest.number) else Ok values
 
+-- how many components a diagram has, and behind that its linking numbers
 unfoldable pub linked_item : Text → Result (Linked × Text) TextFault
 linked_item text = do
   one ← next_line text
@@ -91,6 +94,7 @@ linking_evidence line text = do
 
 -- ---- either
 
+-- `different`, the kind of numbers, and the numbers of two diagrams
 unfoldable pub evidence_at : NumberedLine → Text → Result (Evidence × Text) TextFault
 evidence_at line text = do
   rest ← word (codes "different") line
@@ -106,6 +110,7 @@ head_at line = do
   version ← last_count rest
   if version == THIRD_VERSION then Ok tt else Err (Malformed line.number)
 
+-- the line `certificate 3`, and the evidence behind it
 unfoldable pub third_item : Text → Result (Evidence × Text) TextFault
 third_item text = do
   head ← next_line text

@@ -15,6 +15,6 @@ numbers_in text = do
   end ← text_end listed.1
   Ok (record { diagram = diagram.0; blocks = listed.0 })
 
--- the same of bytes
+-- a diagram and blocks, from the bytes of a text
 abbrev pub numbers_of : List ℕ → Result NumbersText TextFault
 numbers_of bytes = numbers_in (text_of bytes)

@@ -20,6 +20,7 @@ is_third_line (word ∷ []) = false
 is_third_line (word ∷ version ∷ []) = bytes_eq word (codes "certificate") && bytes_eq version (codes "3")
 is_third_line (word ∷ version ∷ token ∷ tokens) = false
 
+-- the first line is `certificate 3`
 abbrev pub starts_third : List NumberedLine → Bool
 starts_third [] = false
 starts_third (line ∷ lines) = is_third_line line.tokens
@@ -37,9 +38,11 @@ third_in text = do
   end ← text_end evidence.1
   Ok (problem.0, said.Evidence evidence.0)
 
+-- a problem and evidence by numbers, from the bytes of a text
 abbrev pub third_of : List ℕ → Result (ProblemText × Said) TextFault
 third_of bytes = third_in (text_of bytes)
 
+-- a problem and a verdict, as what is said of its diagrams
 abbrev pub with_verdict : Result (ProblemText × Verdict) TextFault → Result (ProblemText × Said) TextFault
 with_verdict read = do
   check ← read
@@ -63,5 +66,6 @@ verdict_behind problem text = do
 abbrev pub said_in : Text → Result (ProblemText × Said) TextFault
 said_in text = if has_third (problem_item text) then third_in text else with_verdict (check_in text)
 
+-- a problem and what is said of its two diagrams, from the bytes of a text
 abbrev pub said_of : List ℕ → Result (ProblemText × Said) TextFault
 said_of bytes = said_in (text_of bytes)

@@ -47,9 +47,11 @@ shadow_head_at quandle line = do
   end ← line_end token.1
   head_of quandle line.number token.0
 
+-- a shadow cocycle, with how its text gives it
 abbrev pub spelled : Spelling → ShadowCochain → SpelledShadow
 spelled s t = record { spelling = s; cocycle = t }
 
+-- the numbers of a table, whether or not they have the laws
 abbrev pub shadow_cochain : Table → ℕ → List ℕ → ShadowCochain
 shadow_cochain quandle modulus entries = record { quandle = quandle; modulus = modulus; entries = entries }
 

@@ -12,11 +12,13 @@ use Rattle.number_text.specs.declared.weighed.Weighing.{Weighing}
 use Rattle.number_text.specs.declared.weighed.Weighing.TheVariants.{Strands, Regions}
 use Rattle.number_text.specs.declared.weighed.WeighedText.{WeighedText}
 
+-- a 2-cocycle, as what weighs
 abbrev pub strands_item : Table → Text → Result (Weighing × Text) TextFault
 strands_item quandle text = do
   cocycle ← cocycle_item quandle text
   Ok (Strands cocycle.0, cocycle.1)
 
+-- a shadow cocycle, as what weighs
 abbrev pub regions_item : Table → Text → Result (Weighing × Text) TextFault
 regions_item quandle text = do
   shadow ← shadow_item quandle text
@@ -36,6 +38,6 @@ weighed_in text = do
   end ← text_end cocycle.1
   Ok (record { first = first.0; second = second.0; listed = listed.0; cocycle = cocycle.0 })
 
--- the same of bytes
+-- two diagrams, a quandle and a cocycle of it, from the bytes of a text
 abbrev pub weighed_of : List ℕ → Result WeighedText TextFault
 weighed_of bytes = weighed_in (text_of bytes)

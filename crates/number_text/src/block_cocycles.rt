@@ -32,7 +32,8 @@ fn cocycle_or_none(
     Ok(None)
 }
 
-/// The same of the quandle of a block.
+/// Of a block's quandle a 2-cocycle where a line that begins with `weight` is next, a shadow cocycle where it begins with `shadow`, or nothing.
+/// Else the fault of the first bad line, or want of memory.
 pub fn perhaps_cocycle(
     alloc: Global,
     listed: &LargeListed,

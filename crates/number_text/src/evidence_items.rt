@@ -1,10 +1,10 @@
-//! Evidence by numbers, as it is read behind the line `certificate 3`.
+//! Evidence by numbers, as it is read from the line `certificate 3` on.
 ghost use Rattle.std.specs.Prelude.{◌≡◌};
 ghost use Rattle.text_items.specs.Reading.{Gives};
 ghost use Rattle.number_text.specs.Evidence.{numbers_evidence, linking_evidence, evidence_at, head_at, third_item, count_of};
 
 use crate::block_cocycles::perhaps_cocycle;
-use crate::number_lines::{counted_item, linked_item};
+use crate::number_lines::{linked_item, seeded_numbers_item};
 use evidence_core::{Block, Evidence, LargeWeighing};
 use quandle_core::MAX_LARGE_ORDER;
 use std::alloc::Global;
@@ -38,8 +38,8 @@ fn numbers_evidence(
     let listed = large_quandle_at(alloc, MAX_LARGE_ORDER, line, lines)?;
     let cocycle = perhaps_cocycle(alloc, &listed, lines)?;
     let count = count_of(&cocycle);
-    let first = counted_item(alloc, count, lines)?;
-    let second = counted_item(alloc, count, lines)?;
+    let first = seeded_numbers_item(alloc, count, lines)?;
+    let second = seeded_numbers_item(alloc, count, lines)?;
     Ok(Evidence::Numbers {
         block: Block { listed, cocycle },
         first,
@@ -94,7 +94,7 @@ fn head_at(line: &mut Line) -> Result<(), TextFault>
     }
 }
 
-/// Evidence by numbers, behind its head line. Else the fault of the first bad line, or want of memory.
+/// The line `certificate 3`, and the evidence by numbers behind it. Else the fault of the first bad line, or want of memory.
 #[tactic(auto, unfolding(crate::specs::Evidence::third_item))]
 pub fn third_item(alloc: Global, lines: &mut Lines) -> Result<Evidence, TextFault>
     ensures { Gives (λ e. (e, lines.new)) result (third_item lines.old) }

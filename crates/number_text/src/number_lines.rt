@@ -2,7 +2,7 @@
 ghost use Rattle.std.specs.Prelude.{◌≡◌};
 ghost use Rattle.std.specs.List.{list_any};
 ghost use Rattle.text_items.specs.Reading.{Gives};
-ghost use Rattle.text_items.specs.Braids.{is_long_letter, letter_of, letters};
+ghost use Rattle.text_items.specs.Braids.{is_long_letter, letters};
 ghost use Rattle.number_text.specs.Evidence.{seeds_at, numbers_line_at, seeded_numbers_item, components_at, letters_at, linked_item};
 
 use evidence_core::{Counted, Linked};
@@ -11,7 +11,7 @@ use memory_core::Items;
 use std::alloc::Global;
 use text_items::numbers::numbers_behind;
 use text_items::reading::{MAX_NUMBER, last_count, next_line, word};
-use text_items::{TextFault, any_long, number_list};
+use text_items::{TextFault, any_long, letter, number_list};
 use text_lines::{Line, Lines};
 
 /// The word `numbers`, and so many numbers.
@@ -41,7 +41,7 @@ pub fn seeds_at(line: &mut Line) -> Result<Rows, TextFault>
 
 /// The seeds of a diagram, and so many numbers of its colourings.
 #[tactic(auto, unfolding(crate::specs::Evidence::seeded_numbers_item))]
-pub(crate) fn counted_item(
+pub(crate) fn seeded_numbers_item(
     alloc: Global,
     count: u8,
     lines: &mut Lines,
@@ -56,22 +56,6 @@ pub(crate) fn counted_item(
         seeds,
         numbers: Items::from_vec(numbers),
     })
-}
-
-/// The number that a token writes, perhaps with a `-` directly in front; `None` exactly where it has another form.
-fn letter(token: &[u8]) -> Option<i64>
-    ensures { result ≡ letter_of token.now }
-{
-    match token {
-        [b'-', rest @ ..] => match text_lines::number(rest) {
-            Some(value) => Some(-i64::from(value)),
-            None => None,
-        },
-        _ => match text_lines::number(token) {
-            Some(value) => Some(i64::from(value)),
-            None => None,
-        },
-    }
 }
 
 /// All tokens that are left of a line, as numbers of any size, negative or not.
@@ -89,7 +73,7 @@ fn letter_list(alloc: Global, line: &mut Line) -> Result<Vec<i64>, TextFault>
     Ok(list)
 }
 
-/// Whether a number, negative or not, has too many digits.
+/// Whether one of the numbers, negative or not, has too many digits.
 fn any_long_letter(list: &[i64]) -> bool
     ensures { result ≡ list_any is_long_letter list.now }
 {

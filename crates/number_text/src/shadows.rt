@@ -37,13 +37,13 @@ pub fn shadow_item(
     ensures { Gives (λ s. (s, lines.new)) result (shadow_item quandle.now lines.old) }
 {
     let mut line = next_line(lines)?;
-    let head = head_at(quandle, &mut line)?;
+    let head = shadow_head_at(quandle, &mut line)?;
     shadow_of(alloc, quandle, head, lines)
 }
 
-/// The first line.
+/// What the first line of a shadow cocycle says.
 #[tactic(auto, unfolding(crate::specs::Shadows::shadow_head_at))]
-fn head_at(quandle: &Operations, line: &mut Line) -> Result<Head, TextFault>
+fn shadow_head_at(quandle: &Operations, line: &mut Line) -> Result<Head, TextFault>
     ensures head { Gives (λ h. h) result (shadow_head_at quandle.now line.old) }
     ensures few { IfOk result (λ h. quandle.now.order ≤ MAX_ORDER) }
     ensures formula { IfOk result (λ h. h ≡ Head.Mochizuki → has_formula quandle.now ≡ true) }
@@ -135,7 +135,7 @@ fn shadow_of(
     shadow_by(alloc, &own, head, lines)
 }
 
-/// The same of a quandle of few colours.
+/// What the first line means, of a quandle of at most `MAX_ORDER` colours, with the lines behind it that a table takes.
 fn shadow_by(
     alloc: Global,
     quandle: &Quandle,

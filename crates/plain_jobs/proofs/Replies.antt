@@ -1,5 +1,6 @@
 -- The replies of plain jobs to what was read: their statuses, and that there is one where the input determines it.
-use Rattle.std.proofs.Common.{◌≡◌, ◌∷◌, ℕ, List, [], Bool, Option, Some, None, Result, Ok, Err, true, false, cond, codes, refl, sym, ap, ap₂, subst, ◌∙◌, inl, inr, ◌⊎◌}
+use Rattle.std.proofs.Common.{◌≡◌, ◌∷◌, ℕ, List, [], Bool, Option, Some, None, Result, Ok, Err, true, false, cond, codes, refl, sym, ap, ap₂, subst, ◌∙◌, inl}
+use Rattle.std.proofs.Common.{inr, ◌⊎◌}
 use Rattle.arrayvec.specs.ArrayVec.{ArrayVec}
 use Rattle.grid_core.specs.Diagram.{Diagram, IsGrid}
 use Rattle.grid_moves.specs.declared.step.Move.{Move}

@@ -1,5 +1,6 @@
 -- A certificate fails at its first bad line, whether it is one of a table or of what is said of two diagrams.
-use Rattle.std.proofs.Common.{◌≡◌, ◌==◌, ◌&&◌, ◌∙◌, inl, inr, ℕ, zero, suc, List, [], ◌∷◌, length, Bool, true, false, cond, Option, Some, None, Result, Ok, Err, refl, ap, codes, nat_lt}
+use Rattle.std.proofs.Common.{◌≡◌, ◌==◌, ◌&&◌, ◌∙◌, inl, inr, ℕ, zero, suc, List, [], ◌∷◌, length, Bool, true, false, cond, Option, Some, None, Result, Ok, Err}
+use Rattle.std.proofs.Common.{refl, ap, codes, nat_lt}
 use Rattle.std.specs.Prelude.{IsOk}
 use Rattle.arrayvec.specs.ArrayVec.{ArrayVec}
 use Rattle.cocycle_core.specs.Cocycle.{Cochain}
@@ -19,7 +20,8 @@ use Rattle.verdict_text.specs.Diagrams.{diagram_item}
 use Rattle.verdict_text.specs.Moves.{moves_item}
 use Rattle.knot_text.specs.FirstBadLine.{lines_then, FailsFirst}
 use Rattle.knot_text.proofs.Steady.{Anywhere, Steady, then_read, then_steady, pure_steady, same_steady, turns_steady}
-use Rattle.knot_text.proofs.AtLine.{At, at_ok, at_malformed, at_bind, at_cond, at_same, line_alone, word_at, word_keeps, number_at, number_keeps, last_number_at, last_number_keeps, last_count_at, at_most_at}
+use Rattle.knot_text.proofs.AtLine.{At, at_ok, at_malformed, at_bind, at_cond, at_same, line_alone, word_at, word_keeps, number_at, number_keeps}
+use Rattle.knot_text.proofs.AtLine.{last_number_at, last_number_keeps, last_count_at, at_most_at}
 use Rattle.knot_text.proofs.ItemsAtLine.{word_count_at}
 use Rattle.knot_text.proofs.ItemsSteady.{line_then, line_then_two, go, go_steady, plan, plan_at, flat_quandle, moves_steady}
 use Rattle.knot_text.proofs.WeightsFail.{cocycle_steady}
@@ -84,7 +86,8 @@ flat_quandle_word : (most : ℕ) (s : Result NumberedLine TextFault) (text : Tex
 flat_quandle_word most (Ok rest) text = flat_quandle most rest text
 flat_quandle_word most (Err e) text = refl
 
-flat_quandle_line : (most : ℕ) (r : Result (NumberedLine × Text) TextFault) → (r >>= λ line. word (codes "quandle") line.0 >>= λ rest. quandle_at most rest line.1)
+flat_quandle_line : (most : ℕ) (r : Result (NumberedLine × Text) TextFault)
+    → (r >>= λ line. word (codes "quandle") line.0 >>= λ rest. quandle_at most rest line.1)
     ≡ (r >>= λ line. word (codes "quandle") line.0 >>= λ rest. plan most rest >>= λ p. go p line.1)
 flat_quandle_line most (Ok line) = flat_quandle_word most (word (codes "quandle") line.0) line.1
 flat_quandle_line most (Err e) = refl

@@ -47,7 +47,7 @@ pub fn answer<R: Threads + Wait + Sync, G: Gate + Sync>(
     }
 }
 
-/// The same by the one worker that is asked for, in the calling thread. It passes no gate.
+/// The reply to the bytes of a problem, as `answer` gives it, by the one worker that is asked for, in the calling thread. It passes no gate.
 pub fn answer_alone(alloc: Global, asked: &Asked, bytes: &[u8]) -> Result<Reply, AllocError>
     requires bounds { IsWithinBounds asked.now }
     requires one { asked.now.workers ≡ 1 }

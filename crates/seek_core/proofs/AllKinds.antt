@@ -1,5 +1,6 @@
 -- The quandles by formula are trivial 2, the tetrahedral one, and all dihedral and Alexander ones: found by going over them.
-use Rattle.std.proofs.Common.{rules, ◌≡◌, ◌<◌, ◌≤◌, ◌+◌, ◌-◌, ◌==◌, ◌&&◌, ◌||◌, ℕ, zero, suc, not, refl, ap₂, subst, inl, inr, arith, nat_le, Bool, true, false, List, [], ◌∷◌, All}
+use Rattle.std.proofs.Common.{rules, ◌≡◌, ◌<◌, ◌≤◌, ◌+◌, ◌-◌, ◌==◌, ◌&&◌, ◌||◌, ℕ, zero, suc, not, refl, ap₂, subst, inl, inr, arith, nat_le, Bool, true, false}
+use Rattle.std.proofs.Common.{List, [], ◌∷◌, All}
 use Rattle.std.specs.List.{range_with_len, list_any, list_all, AllByRecursion}
 use Rattle.std.specs.Str.{bytes_eq}
 use Rattle.std.proofs.lemmas.Bool.{and_parts, or_cases, eqb-true, leb-true, cases_eq}

@@ -1,5 +1,6 @@
 -- The quandles by formula, one more at a time; each of them has a text.
-use Rattle.std.proofs.Common.{rules, ◌≡◌, ◌≤◌, ◌+◌, ◌-◌, ◌∙◌, ℕ, List, [], ◌∷◌, ◌++◌, Option, Some, None, Bool, true, nat_le, map, flat_map, option_to_list, IfSome, refl, ap, sym, subst, arith, append_assoc, All}
+use Rattle.std.proofs.Common.{rules, ◌≡◌, ◌≤◌, ◌+◌, ◌-◌, ◌∙◌, ℕ, List, [], ◌∷◌, ◌++◌, Option, Some, None, Bool, true, nat_le, map, flat_map, option_to_list}
+use Rattle.std.proofs.Common.{IfSome, refl, ap, sym, subst, arith, append_assoc, All}
 use Rattle.std.specs.List.{range_with_len, cons_option, list_all, AllByRecursion}
 use Rattle.std.proofs.lemmas.Bool.{leb-true, and_parts}
 use Rattle.std.proofs.lemmas.List.{flat_map_more}

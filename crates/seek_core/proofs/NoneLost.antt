@@ -1,5 +1,6 @@
 -- No quandle that separates two diagrams is lost among the candidates.
-use Rattle.std.proofs.Common.{rules, ◌≡◌, ◌≢◌, ◌∙◌, ◌==◌, ◌&&◌, ◌⊎◌, ℕ, not, refl, ap, sym, subst, inl, inr, Bool, true, false, cond, List, [], ◌∷◌, ◌++◌, Option, Some, None, Ok, length, slice_index_or, All}
+use Rattle.std.proofs.Common.{rules, ◌≡◌, ◌≢◌, ◌∙◌, ◌==◌, ◌&&◌, ◌⊎◌, ℕ, not, refl, ap, sym, subst, inl, inr, Bool, true, false, cond, List, [], ◌∷◌, ◌++◌}
+use Rattle.std.proofs.Common.{Option, Some, None, Ok, length, slice_index_or, All}
 use Rattle.std.specs.List.{find, filter, AllByRecursion, Contains, cons_option}
 use Rattle.std.specs.Option.{option_or}
 use Rattle.std.proofs.lemmas.Bool.{and_parts, and_cases, and_left, and_from, or_cases, or_parts, not-true, not-false, both_ways, eqb-true, eq-eqb}

@@ -1,5 +1,6 @@
 -- What the rounds of a search come to.
-use Rattle.std.proofs.Common.{◌≡◌, ◌∙◌, ◌++◌, ◌&&◌, ◌==◌, not, ℕ, Bool, true, false, List, [], ◌∷◌, Option, Some, None, IfSome, length, take, drop, cond, refl, sym, ap, ap₂, subst}
+use Rattle.std.proofs.Common.{◌≡◌, ◌∙◌, ◌++◌, ◌&&◌, ◌==◌, not, ℕ, Bool, true, false, List, [], ◌∷◌, Option, Some, None, IfSome, length, take, drop, cond, refl}
+use Rattle.std.proofs.Common.{sym, ap, ap₂, subst}
 use Rattle.std.specs.List.{AllByRecursion, find}
 use Rattle.std.specs.Option.{is_some, option_or}
 use Rattle.std.proofs.lemmas.Bool.{eq-eqb}

@@ -26,7 +26,7 @@ use Rattle.certificate_check.specs.Decision.{IsFindingOf}
 use Rattle.certificate_check.proofs.HeldTexts.{held_text}
 use Rattle.seek_core.specs.Candidates.{fitting, candidate_quandles}
 use Rattle.seek_core.specs.Formulas.{formula_quandles}
-use Rattle.seek_core.specs.declared.finding.Search.{Search}
+use Rattle.seek_core.specs.declared.finding.SearchOutcome.{SearchOutcome}
 use Rattle.seek_core.specs.declared.answer.Tried.{Tried}
 use Rattle.seek_core.specs.Found.{IsVerdictBy, IsFoundWhere, IsSearchOn, IsSearchOf}
 use Rattle.seek_core.specs.Answers.{QuandlesTriedInVain, BlocksTriedInVain}
@@ -55,7 +55,7 @@ candidates_are d e listed formulas start mid end none first same second =
 -- ---- what is found
 
 -- a search on the diagrams and the quandles of a problem
-pub search_of : (d e d' e' : Diagram) (listed listed' : List NamedQuandle) (blocks : List Block) (s : Search) → d ≡ d' → e ≡ e' → listed ≡ listed'
+pub search_of : (d e d' e' : Diagram) (listed listed' : List NamedQuandle) (blocks : List Block) (s : SearchOutcome) → d ≡ d' → e ≡ e' → listed ≡ listed'
     → IsSearchOn d e listed blocks s → IsSearchOn d' e' listed' blocks s
 search_of d e d' e' listed listed' blocks s first second same search =
     subst (λ (g : Diagram). IsSearchOn g e' listed' blocks s) first
@@ -80,7 +80,7 @@ worth_by d e qs (Some q) v all is lists = record {
 worth_by d e qs None v all is equal = subst (IsWorth d e) (sym equal.verdict) (record { holds = equal.joins; written = tt; tidy = equal.tidy })
 
 -- of the diagrams of a problem
-finding_of : (p : ProblemText) (blocks : List Block) (s : Search) (x : Said) → IsGrid (grid_of p.first) → IsGrid (grid_of p.second)
+finding_of : (p : ProblemText) (blocks : List Block) (s : SearchOutcome) (x : Said) → IsGrid (grid_of p.first) → IsGrid (grid_of p.second)
     → All HasQuandleText s.quandles.items → All HasBlockText blocks → (search : IsSearchOf p blocks s)
     → IsFoundWhere (grid_of p.first) (grid_of p.second) (first_separating (grid_of p.first) (grid_of p.second) s.quandles.items)
     (told_apart (grid_of p.first) (grid_of p.second) search.seeds (as_tried blocks)) (Some x) → IsFindingOf p x
@@ -96,7 +96,8 @@ finding_of p blocks s (said.Evidence x) one two all texts search found = record 
       (by_written (grid_of p.first) (grid_of p.second) search.seeds (as_tried blocks) x one two search.plans (tried_texts blocks texts) found);
 }
 
-pub finding_if : (p : ProblemText) (blocks : List Block) (s : Search) → IsGrid (grid_of p.first) → IsGrid (grid_of p.second) → All HasQuandleText s.quandles.items
+pub finding_if : (p : ProblemText) (blocks : List Block) (s : SearchOutcome) → IsGrid (grid_of p.first) → IsGrid (grid_of p.second)
+    → All HasQuandleText s.quandles.items
     → All HasBlockText blocks → IsSearchOf p blocks s → IfSome s.said (λ x. IsFindingOf p x)
 finding_if p blocks s one two all texts search = by s.said refl
   where
@@ -117,7 +118,7 @@ linking_none d e s blocks none = by (told_by_linking d e) refl none
     by None linking none = (linking, none)
     by (Some x) linking none = absurd cc
 
-pub in_vain_of : (bytes : List ℕ) (p : ProblemText) (blocks : List Block) (s : Search) (tried : Tried) → problem_of bytes ≡ Ok p
+pub in_vain_of : (bytes : List ℕ) (p : ProblemText) (blocks : List Block) (s : SearchOutcome) (tried : Tried) → problem_of bytes ≡ Ok p
     → tried.columns ≡ (column_count p.first, column_count p.second) → tried.quandles ≡ s.quandles.items → tried.blocks ≡ s.blocks → s.said ≡ None
     → IsSearchOf p blocks s → QuandlesTriedInVain bytes tried × BlocksTriedInVain bytes blocks tried
 in_vain_of bytes p blocks s tried read wide same fitting none search =

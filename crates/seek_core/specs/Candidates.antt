@@ -12,6 +12,7 @@ use Rattle.seek_core.specs.Formulas.{formula_quandles}
 abbrev pub fits_diagrams : Diagram → Diagram → NamedQuandle → Bool
 fits_diagrams d e q = fits q.table d && fits q.table e
 
+-- two names are one: of one family, with the same numbers
 abbrev pub same_name : QuandleName → QuandleName → Bool
 same_name (name.Trivial n) (name.Trivial m) = n == m
 same_name (name.Dihedral n) (name.Dihedral m) = n == m

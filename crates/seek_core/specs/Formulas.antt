@@ -24,6 +24,7 @@ formula_names = first_names ++ flat_map names_of_order (range_with_len 4 (MAX_OR
 abbrev pub quandles_named : List QuandleName → List NamedQuandle
 quandles_named names = filter_map quandle_named names
 
+-- all quandles by formula, in the order in which they are tried
 abbrev pub formula_quandles : List NamedQuandle
 formula_quandles = quandles_named formula_names
 

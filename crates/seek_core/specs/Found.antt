@@ -1,4 +1,4 @@
--- What a search for a verdict on two diagrams comes to.
+-- What a search for a verdict on two diagrams comes to. Contracts cite IsEqualBy, IsVerdictOn, IsFoundOn and IsSearchOf, of which the others are parts.
 use Rattle.std.specs.Prelude.{◌≡◌, true, List, Option, Some, None, count_by}
 use Rattle.grid_core.specs.Diagram.{Diagram}
 use Rattle.grid_moves.specs.declared.step.Move.{Move}
@@ -16,7 +16,7 @@ use Rattle.number_text.specs.declared.said.Said.{Said}
 use Rattle.number_text.specs.declared.said.Said.TheVariants as said
 use Rattle.number_search.specs.declared.seed_pair.SeedPair.{SeedPair}
 use Rattle.number_search.specs.Told.{ArePlansOf, fits_both, told_apart}
-use Rattle.seek_core.specs.declared.finding.Search.{Search}
+use Rattle.seek_core.specs.declared.finding.SearchOutcome.{SearchOutcome}
 use Rattle.seek_core.specs.Candidates.{candidate_quandles}
 use Rattle.seek_core.specs.Pairs.{SeededPair}
 use Rattle.seek_core.specs.Sizes.{as_tried}
@@ -56,13 +56,13 @@ IsFoundOn p quandles blocks o =
 
 -- what a search on two diagrams and listed quandles tried and found, where so many of the blocks fit plans of both diagrams. Where linking
 -- numbers don't differ, evidence is by the first block that tells, in the order of `as_tried`
-pub record IsSearchOn (d e : Diagram) (listed : List NamedQuandle) (blocks : List Block) (s : Search) : Type 0 where
+pub record IsSearchOn (d e : Diagram) (listed : List NamedQuandle) (blocks : List Block) (s : SearchOutcome) : Type 0 where
   pub quandles : s.quandles.items ≡ candidate_quandles d e listed
   pub seeds : SeedPair
   pub plans : ArePlansOf d e seeds
   pub fitting : s.blocks ≡ count_by (fits_both seeds) blocks
   pub found : IsFoundWhere d e (first_separating d e s.quandles.items) (told_apart d e seeds (as_tried blocks)) s.said
 
--- the same of a problem
-abbrev pub IsSearchOf : ProblemText → List Block → Search → Type 0
+-- what a search on the diagrams and the quandles of a problem tried and found
+abbrev pub IsSearchOf : ProblemText → List Block → SearchOutcome → Type 0
 IsSearchOf p blocks s = IsSearchOn (grid_of p.first) (grid_of p.second) p.quandles blocks s

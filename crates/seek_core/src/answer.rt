@@ -7,7 +7,7 @@ ghost use Rattle.seek_core.specs.Answers.{IsTrueAnswer};
 
 use crate::blocks::Blocks;
 use crate::bounds::Bounds;
-use crate::finding::{Search, find};
+use crate::finding::{SearchOutcome, find};
 use certificate_check::laws::what_holds_is_a_decision;
 use certificates::print_said;
 use knot_text::read_problem;
@@ -77,7 +77,7 @@ fn answer_problem<R: Threads + Sync, W: Watch>(
     ensures { (bytes : List ℕ) → problem_of bytes ≡ Ok problem.now → IfOk result (λ a. IsTrueAnswer bytes blocks.now a) }
 {
     what_holds_is_a_decision();
-    let Search {
+    let SearchOutcome {
         said,
         quandles,
         blocks: fitting,

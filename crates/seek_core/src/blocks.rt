@@ -48,7 +48,7 @@ impl Blocks {
         self.list.as_slice()
     }
 
-    /// The same with those of a text of blocks alone behind them. Else the fault of its first bad line, or want of memory.
+    /// These blocks, followed by those of a text that has blocks alone. Else the fault of its first bad line, or want of memory.
     pub fn with_text(self, alloc: Global, bytes: &[u8]) -> Result<Blocks, TextFault>
         ensures { Gives (λ b. b) result (more_blocks self bytes.now) }
     {

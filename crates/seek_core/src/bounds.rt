@@ -23,7 +23,7 @@ impl Bounds {
         }
     }
 
-    /// The same for the short walk.
+    /// These bounds, with at most `SHORT_STEPS` steps: those of the short walk.
     pub(crate) fn short(self) -> Bounds {
         let Bounds { walks, workers } = self;
         Bounds {

@@ -84,7 +84,7 @@ pub fn run<R: Threads + Sync, K: Sink, W: Watch>(
     }
 }
 
-/// The same for the bytes of the whole input.
+/// Looks for what can be said of the diagrams of an input, given as one text, and writes it, as `run` does.
 fn run_whole<R: Threads + Sync, K: Sink, W: Watch>(
     rt: &R,
     alloc: Global,

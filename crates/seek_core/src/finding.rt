@@ -23,7 +23,7 @@ pub const FIRST_QUANDLES: usize = 16;
 
 /// What a search came to, and what was tried in it.
 #[derive(Drop)]
-pub struct Search {
+pub struct SearchOutcome {
     /// What can be said of the two diagrams, if anything was found.
     pub said: Option<Said>,
     /// The quandles that fit both diagrams, in the order in which they were tried: behind one that separates them none was.
@@ -51,7 +51,7 @@ pub fn find<R: Threads + Sync, W: Watch>(
     blocks: &Blocks,
     bounds: Bounds,
     watch: &mut W,
-) -> Result<Search, OutOfMemory>
+) -> Result<SearchOutcome, OutOfMemory>
     requires { All HasQuandleText problem.now.quandles }
     ensures search { IfOk result (λ s. IsSearchOf problem.now blocks.now s) }
     ensures finding { IfOk result (λ s. IfSome s.said (λ x. IsFindingOf problem.now x)) }
@@ -64,7 +64,7 @@ pub fn find<R: Threads + Sync, W: Watch>(
     let given = blocks.as_slice();
     let pair = Pair::new(&first, &second, &seeds);
     let said = said_of(rt, alloc, &pair, quandles.as_slice(), given, bounds, watch)?;
-    Ok(Search {
+    Ok(SearchOutcome {
         said,
         quandles,
         blocks: count_fitting(&seeds, given),
@@ -94,7 +94,7 @@ fn said_of<R: Threads + Sync, W: Watch>(
     }
 }
 
-/// The same in the rounds before the larger blocks are tried.
+/// What can be said of two diagrams, if anything is found in rounds 1 to 6, before the larger blocks are tried.
 fn said_before_larger<R: Threads + Sync, W: Watch>(
     rt: &R,
     alloc: Global,

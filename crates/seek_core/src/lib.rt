@@ -20,6 +20,6 @@ pub use answer::{Answer, Tried, answer_to};
 pub use blocks::Blocks;
 pub use bounds::{Bounds, SHORT_STEPS};
 pub use ending::{Ending, run};
-pub use finding::{FIRST_QUANDLES, Search, find};
+pub use finding::{FIRST_QUANDLES, SearchOutcome, find};
 pub use formulas::formula_quandles;
 pub use parts::{join_parts, place};

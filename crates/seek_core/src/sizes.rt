@@ -33,7 +33,7 @@ pub(crate) fn tell_by_size(
     Ok(None)
 }
 
-/// The same of one block.
+/// Evidence by one block, if it is a larger one, or isn't, as asked, and tells two grids apart. Else None.
 fn told_by_one(
     alloc: Global,
     first: &Grid,

@@ -35,9 +35,8 @@ impl fmt::Display for NotOne {
         match self {
             NotOne::Nothing => write!(f, "there is no diagram in it"),
             NotOne::Half => write!(f, "it ends before the line `o ..` of its diagram"),
-            NotOne::More { .. } => write!(
-                f,
-                "a line too many: where two diagrams are given, each stands alone, and quandles in a file behind `--quandles`"
+            NotOne::More { .. } => f.write_str(
+                "a line too many: where two diagrams are given, each stands alone, and quandles in a file behind `--quandles`",
             ),
         }
     }

@@ -5,17 +5,16 @@ use crate::shown::{Shown, write_blanks};
 use braid_core::MAX_STRANDS;
 use grid_core::MAX_SIZE;
 use std::fmt;
+use text_items::letter;
+use text_items::reading::MAX_NUMBER;
 use text_lines::{Line, MAX_DIGITS};
-
-/// The greatest number of so many digits.
-const MAX_NUMBER: u32 = 999_999_999;
 
 /// Why a line is no braid.
 #[derive(Clone, Copy, Debug, PartialEq, Eq)]
 pub enum BraidReason<'a> {
     /// Nothing stands behind `braid`.
     NoStrands,
-    /// There are none, or too many.
+    /// There are no strands, or more than `MAX_STRANDS`.
     Strands { strands: u32 },
     /// A token is no letter.
     NoLetter { token: Shown<'a> },
@@ -29,10 +28,7 @@ impl<'a> fmt::Display for BraidReason<'a> {
     fn fmt<W: fmt::Write>(&self, f: &mut fmt::Formatter<W>) -> fmt::Result {
         match self {
             BraidReason::NoStrands => {
-                write!(
-                    f,
-                    "the number of strands is due behind `braid`, and then the letters"
-                )
+                f.write_str("the number of strands is due behind `braid`, and then the letters")
             }
             BraidReason::Strands { strands: 0 } => write!(f, "a braid has one strand or more"),
             BraidReason::Strands { strands } => write!(
@@ -47,28 +43,20 @@ impl<'a> fmt::Display for BraidReason<'a> {
                 write_blanks(f, *token, "letters")
             }
             BraidReason::Letter { letter: 0, .. } => {
-                write!(
-                    f,
-                    "0 is not a letter: the letters of a braid begin with 1 and -1"
-                )
+                f.write_str("0 is not a letter: the letters of a braid begin with 1 and -1")
             }
             BraidReason::Letter { letter, strands } => write!(
                 f,
                 "{letter} is not a letter of a braid of {strands} strands: a letter i crosses strands i and i + 1"
             ),
-            BraidReason::Wide { letters, strands } => write!(
-                f,
-                "the closure of {letters} letters on {strands} strands has more than the {MAX_SIZE} columns that a diagram may have: one a letter and two a strand"
-            ),
+            BraidReason::Wide { letters, strands } => {
+                write!(
+                    f,
+                    "the closure of {letters} letters on {strands} strands has more than the {MAX_SIZE} columns that a diagram may have"
+                )?;
+                f.write_str(": one a letter and two a strand")
+            }
         }
-    }
-}
-
-/// The letter that a token writes.
-fn letter(token: &[u8]) -> Option<i64> {
-    match token {
-        [b'-', rest @ ..] => Some(-i64::from(text_lines::number(rest)?)),
-        _ => Some(i64::from(text_lines::number(token)?)),
     }
 }
 

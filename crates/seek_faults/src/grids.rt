@@ -63,12 +63,10 @@ impl fmt::Display for GridReason {
                 f,
                 "{count} columns are more than the {MAX_SIZE} that a diagram may have"
             ),
-            GridReason::FewColumns { count } => {
-                write!(
-                    f,
-                    "a diagram has two columns or more, and this one has {count}"
-                )
-            }
+            GridReason::FewColumns { count } => write!(
+                f,
+                "a diagram has two columns or more, and this one has {count}"
+            ),
             GridReason::OtherCount { rings, columns } => {
                 write!(f, "there are {rings} Os in a diagram of {columns} columns")
             }

@@ -1,5 +1,5 @@
 //! Why a line of an input is bad, in words, for whoever wrote it.
-//! That a line is bad is knot_text's to say, with a proof; here the line is read once more, beside it, to find out what to say of it.
+//! That a line is bad the readers say, with a proof (text_items and above); here the line is read once more, to find out what is wrong with it.
 #![tactic(auto)]
 
 mod alone;

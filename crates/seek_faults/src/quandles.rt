@@ -31,11 +31,11 @@ pub enum QuandleReason<'a> {
     Unknown { token: Shown<'a> },
     /// Another number of numbers is due behind the name of the family.
     Count { family: Family, count: usize },
-    /// The order is 0, or too large.
+    /// The order is 0, or above `MAX_ORDER` where tables may not have more colours.
     Order { order: u32 },
-    /// The order is too large without a table, and not with one.
+    /// The order is above `MAX_ORDER`, and the quandle is not by a table, which might have more colours.
     NamedOrder { order: u32 },
-    /// The order is too large for the largest tables.
+    /// The order of a table is above `MAX_LARGE_ORDER`.
     TableOrder { order: u32 },
     /// The factor is not below the order.
     Factor { order: u32, factor: u32 },
@@ -86,10 +86,9 @@ impl fmt::Display for Family {
             Family::Dihedral => write!(f, "`dihedral` is followed by its order"),
             Family::Tetrahedral => write!(f, "`tetrahedral` is followed by nothing"),
             Family::Alexander => write!(f, "`alexander` is followed by its order and its factor"),
-            Family::Table => write!(
-                f,
-                "`table` is followed by its order, and its rows stand below it"
-            ),
+            Family::Table => {
+                f.write_str("`table` is followed by its order, and its rows stand below it")
+            }
         }
     }
 }
@@ -97,9 +96,8 @@ impl fmt::Display for Family {
 impl<'a> fmt::Display for QuandleReason<'a> {
     fn fmt<W: fmt::Write>(&self, f: &mut fmt::Formatter<W>) -> fmt::Result {
         match self {
-            QuandleReason::NoName => write!(
-                f,
-                "the name of a quandle is due behind `quandle`: trivial, dihedral, tetrahedral, alexander or table"
+            QuandleReason::NoName => f.write_str(
+                "the name of a quandle is due behind `quandle`: trivial, dihedral, tetrahedral, alexander or table",
             ),
             QuandleReason::Unknown { token } => write!(
                 f,
@@ -109,12 +107,10 @@ impl<'a> fmt::Display for QuandleReason<'a> {
                 write!(f, "{family}, and here stand {count} numbers")
             }
             QuandleReason::Order { order: 0 } => write!(f, "the order of a quandle is 1 or more"),
-            QuandleReason::Order { order } => {
-                write!(
-                    f,
-                    "the order {order} is above {MAX_ORDER}, the largest of a quandle here"
-                )
-            }
+            QuandleReason::Order { order } => write!(
+                f,
+                "the order {order} is above {MAX_ORDER}, the largest of a quandle here"
+            ),
             QuandleReason::NamedOrder { order } => write!(
                 f,
                 "the order {order} is above {MAX_ORDER}, the largest of a quandle without a table"
@@ -129,12 +125,10 @@ impl<'a> fmt::Display for QuandleReason<'a> {
             QuandleReason::NoInverse { order, factor } => {
                 write!(f, "the factor {factor} has no inverse modulo {order}")
             }
-            QuandleReason::Many => {
-                write!(
-                    f,
-                    "there are more than the {MAX_QUANDLES} quandles that an input may have"
-                )
-            }
+            QuandleReason::Many => write!(
+                f,
+                "there are more than the {MAX_QUANDLES} quandles that an input may have"
+            ),
             QuandleReason::RowLength { count, order } => write!(
                 f,
                 "a row of a table of order {order} has {order} entries, and this one has {count}"
@@ -153,12 +147,10 @@ fn write_law<W: fmt::Write>(f: &mut fmt::Formatter<W>, fault: QuandleFault) -> f
         QuandleFault::Idempotent { x } => {
             write!(f, "the table is no quandle: {x} ▷ {x} is not {x}")
         }
-        QuandleFault::Collision { x, z, y } => {
-            write!(
-                f,
-                "the table is no quandle: {x} ▷ {y} and {z} ▷ {y} are the same"
-            )
-        }
+        QuandleFault::Collision { x, z, y } => write!(
+            f,
+            "the table is no quandle: {x} ▷ {y} and {z} ▷ {y} are the same"
+        ),
         QuandleFault::Distributive { x, y, z } => write!(
             f,
             "the table is no quandle: ({x} ▷ {y}) ▷ {z} is not ({x} ▷ {z}) ▷ ({y} ▷ {z})"
@@ -179,29 +171,17 @@ pub(crate) fn table_order(line: &mut Line) -> Option<usize> {
 }
 
 /// Why the line of a quandle is bad, from behind its first word: by its form, by a limit, or by what it says. One quandle more than an
-/// input may have exceeds a limit whatever it says. A table has at most so many elements.
+/// input may have exceeds a limit whatever it says. A table has an order of at most `most`.
 pub(crate) fn quandle_reason<'a>(
     line: &mut Line<'a>,
     is_surplus: bool,
     most: usize,
     due: Due,
 ) -> Reason<'a> {
-    let Some(token) = line.next_token() else {
-        return Reason::Quandle(QuandleReason::NoName);
-    };
-    let Some(family) = Family::named(token) else {
-        return Reason::Quandle(QuandleReason::Unknown {
-            token: Shown(token),
-        });
-    };
-    let (numbers, long) = match Numbers::of_any_length(line) {
+    let (family, numbers, long) = match named_numbers(line) {
         Ok(found) => found,
         Err(reason) => return reason,
     };
-    let count = numbers.count;
-    if count != family.numbers() {
-        return Reason::Quandle(QuandleReason::Count { family, count });
-    }
     if is_surplus {
         return Reason::Quandle(QuandleReason::Many);
     }
@@ -214,7 +194,27 @@ pub(crate) fn quandle_reason<'a>(
     }
 }
 
-/// Why there is no quandle of an order and, if there are two numbers, a factor. A table has at most so many elements.
+/// The family that a line names, the numbers behind it, as many as are due, and the first of them that has too many digits; or why not.
+fn named_numbers<'a>(
+    line: &mut Line<'a>,
+) -> Result<(Family, Numbers, Option<Shown<'a>>), Reason<'a>> {
+    let Some(token) = line.next_token() else {
+        return Err(Reason::Quandle(QuandleReason::NoName));
+    };
+    let Some(family) = Family::named(token) else {
+        return Err(Reason::Quandle(QuandleReason::Unknown {
+            token: Shown(token),
+        }));
+    };
+    let (numbers, long) = Numbers::of_any_length(line)?;
+    let count = numbers.count;
+    if count != family.numbers() {
+        return Err(Reason::Quandle(QuandleReason::Count { family, count }));
+    }
+    Ok((family, numbers, long))
+}
+
+/// Why there is no quandle of an order and, if there are two numbers, a factor. A table has an order of at most `most`.
 fn numbers_reason<'a>(family: Family, numbers: &[u32], most: usize) -> Option<QuandleReason<'a>> {
     let order = *numbers.first()?;
     if order > 0 && most > MAX_ORDER {
@@ -240,16 +240,12 @@ fn numbers_reason<'a>(family: Family, numbers: &[u32], most: usize) -> Option<Qu
 
 /// Why an order is too large where tables may have more elements than other quandles.
 fn large_reason<'a>(family: Family, order: u32, most: usize) -> Option<QuandleReason<'a>> {
-    if family == Family::Table {
-        if order as usize > most {
-            return Some(QuandleReason::TableOrder { order });
-        }
-        return None;
+    match family {
+        Family::Table if order as usize > most => Some(QuandleReason::TableOrder { order }),
+        Family::Table => None,
+        _ if order as usize > MAX_ORDER => Some(QuandleReason::NamedOrder { order }),
+        _ => None,
     }
-    if order as usize > MAX_ORDER {
-        return Some(QuandleReason::NamedOrder { order });
-    }
-    None
 }
 
 /// The table of a quandle, as far as it was read.

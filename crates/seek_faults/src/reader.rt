@@ -18,8 +18,8 @@ pub fn reason_at<'a>(alloc: Global, bytes: &'a [u8], at: usize) -> Reason<'a> {
     reason_in(alloc, PROBLEM, bytes, at, false)
 }
 
-/// The same of an input of any shape. Of its further part no more is known than where it begins, and whether it is a limit that the line
-/// exceeds.
+/// Why a line of an input of any shape is bad. Of its further part no more is known than where it begins, and whether it is a limit
+/// that the line exceeds.
 pub fn reason_in<'a>(
     alloc: Global,
     shape: Shape,
@@ -190,42 +190,31 @@ impl Reader {
         let Some(token) = line.next_token() else {
             return Reason::Other { due };
         };
-        let begins = Reason::Begins {
-            due,
-            token: Shown(token),
-        };
         match &self.crosses {
             Some(crosses) if token == b"o".as_slice() => rings_reason(crosses, line, due),
-            Some(_) => begins,
-            None if self.diagrams < self.most() => self.diagram_reason(token, line, due, begins),
-            None => self.reason_behind(token, line, due, begins, is_limit),
+            Some(_) => begins(due, token),
+            None if self.diagrams < self.most() => self.diagram_reason(token, line, due),
+            None => self.reason_behind(token, line, due, is_limit),
         }
     }
 
     /// Why the first line of a diagram is bad, from behind its first word.
-    fn diagram_reason<'a>(
-        &self,
-        token: &[u8],
-        line: &mut Line<'a>,
-        due: Due,
-        begins: Reason<'a>,
-    ) -> Reason<'a> {
+    fn diagram_reason<'a>(&self, token: &'a [u8], line: &mut Line<'a>, due: Due) -> Reason<'a> {
         if token == b"x".as_slice() && !self.shape.are_braids {
             crosses_reason(line, due)
         } else if token == b"braid".as_slice() {
             braid_reason(line, due)
         } else {
-            begins
+            begins(due, token)
         }
     }
 
     /// Why a line behind the diagrams is bad, from behind its first word.
     fn reason_behind<'a>(
         &self,
-        token: &[u8],
+        token: &'a [u8],
         line: &mut Line<'a>,
         due: Due,
-        begins: Reason<'a>,
         is_limit: bool,
     ) -> Reason<'a> {
         if token == b"quandle".as_slice() && self.shape.then.takes_quandle(self.quandles) {
@@ -234,8 +223,16 @@ impl Reader {
         }
         match due {
             Due::Begin { part } if part.begins(token) => reason_of_part(part, due, is_limit),
-            _ => begins,
+            _ => begins(due, token),
         }
+    }
+}
+
+/// That a line begins with another word than what is due.
+fn begins<'a>(due: Due, token: &'a [u8]) -> Reason<'a> {
+    Reason::Begins {
+        due,
+        token: Shown(token),
     }
 }
 

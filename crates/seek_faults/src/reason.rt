@@ -56,7 +56,7 @@ pub enum Reason<'a> {
     Quandle(QuandleReason<'a>),
     /// A limit of a part is exceeded.
     Limit { part: Part },
-    /// No reason was found.
+    /// It isn't what is due, and no more is known: of a line of a part, of one that isn't the first bad one, or where memory was wanting.
     Other { due: Due },
 }
 
@@ -70,7 +70,7 @@ impl Which {
         }
     }
 
-    /// The same of one that has begun.
+    /// The article and the number of a diagram that has begun.
     fn begun(self) -> &'static str {
         match self {
             Which::Only => "the",
@@ -165,12 +165,10 @@ impl<'a> fmt::Display for Reason<'a> {
                 write!(f, "{token} is not a number")?;
                 write_blanks(f, *token, "numbers")
             }
-            Reason::Digits { token } => {
-                write!(
-                    f,
-                    "{token} has more than the {MAX_DIGITS} digits of a number"
-                )
-            }
+            Reason::Digits { token } => write!(
+                f,
+                "{token} has more than the {MAX_DIGITS} digits of a number"
+            ),
             Reason::Grid(reason) => write!(f, "{reason}"),
             Reason::Braid(reason) => write!(f, "{reason}"),
             Reason::Quandle(reason) => write!(f, "{reason}"),

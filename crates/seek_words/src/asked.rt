@@ -112,7 +112,7 @@ fn asked_by<'a>(alloc: Global, matches: &ArgMatches<'a>) -> Result<Asked<'a>, Er
     Ok(asked)
 }
 
-/// The same with diagrams and numbers that were read.
+/// What matches ask for, with their diagrams and numbers, which were read.
 fn asked_with<'a>(
     alloc: Global,
     matches: &ArgMatches<'a>,

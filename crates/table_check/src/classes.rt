@@ -15,7 +15,7 @@ use colour_seeds::{SeedFault, Seeding};
 use evidence_core::Block;
 use grid_core::Grid;
 use memory_core::OutOfMemory;
-use number_check::{Cause, cause_settled};
+use number_check::{Cause, settled_cause};
 use std::alloc::Global;
 
 /// Why the classes of a table don't hold: the first cause, if there is one.
@@ -104,7 +104,7 @@ fn block_cause(
         return Ok(None);
     };
     let seeds = class.seeds.as_slice();
-    match cause_settled(alloc, 1, grid, block, seeds, numbers, seeding)? {
+    match settled_cause(alloc, 1, grid, block, seeds, numbers, seeding)? {
         None => Ok(None),
         Some(Cause::Number { place, .. }) => Ok(Some(ClassCause::Numbers { block: at, place })),
         Some(_) => Ok(Some(ClassCause::Wide { block: at })),

@@ -12,7 +12,7 @@ use crate::reading::next_line;
 use grid_core::{Grid, Rows, is_repeated};
 use text_lines::{Line, Lines};
 
-/// Two or more numbers, each of 0 to n-1 once.
+/// The line of the Xs of a grid: two or more numbers, each of 0 to n-1 once.
 #[tactic(auto, unfolding(crate::specs::Grids::x_at))]
 fn x_at(line: &mut Line) -> Result<Rows, TextFault>
     ensures { Gives (λ r. r.items) result (x_at line.old) }
@@ -25,7 +25,7 @@ fn x_at(line: &mut Line) -> Result<Rows, TextFault>
     Ok(rows)
 }
 
-/// Numbers that make a grid with those of the line before.
+/// The line of the Os of a grid: numbers that make a grid with those of the line before.
 #[tactic(auto, unfolding(crate::specs::Grids::o_at))]
 fn o_at(x: &Rows, line: &mut Line) -> Result<Grid, TextFault>
     ensures { Gives (λ g. g) result (o_at x.now.items line.old) }

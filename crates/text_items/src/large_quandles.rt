@@ -1,4 +1,4 @@
-//! Quandles of larger orders, by name or table.
+//! Quandles on the heap, by name or by a table that may have up to `MAX_LARGE_ORDER` colours. Those in place are in `quandles.rt`.
 ghost use Rattle.std.specs.Prelude.{◌≡◌, ◌≤◌, false, true, is_none, None, IfErr, IfOk, IfSome};
 ghost use Rattle.quandle_core.specs.declared.operations.TheConstants.{MAX_LARGE_ORDER};
 ghost use Rattle.quandle_core.specs.declared.quandle.TheConstants.{MAX_ORDER};
@@ -18,7 +18,7 @@ use quandle_core::{LargeFault, LargeListed, LargeQuandle};
 use std::alloc::Global;
 use text_lines::{Line, Lines};
 
-/// The lines of a table, which has the three laws of a quandle, or is malformed at its last line.
+/// The lines of a table of up to `MAX_LARGE_ORDER` colours, which has the three laws of a quandle, or is malformed at its last line.
 #[tactic(auto, unfolding(crate::specs::Quandles::table_item))]
 fn table_item(alloc: Global, order: u8, lines: &mut Lines) -> Result<LargeQuandle, TextFault>
     requires { (1 ≤ order) × (order ≤ MAX_LARGE_ORDER) }

@@ -75,7 +75,7 @@ pub fn numbers_behind(expected: &[u8], line: &mut Line) -> Result<Rows, TextFaul
     Ok(kept.first)
 }
 
-/// So many numbers below the order, which is at most 255.
+/// So many numbers below the order, which is at most 255, in place. `numbers_below` of `rows` gives them on the heap, however many.
 #[tactic(auto, unfolding(crate::specs::NumberLines::numbers_below))]
 pub fn numbers_below(width: u8, order: u8, line: &mut Line) -> Result<Rows, TextFault>
     requires { width ≤ MAX_SIZE }

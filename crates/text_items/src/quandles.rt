@@ -1,4 +1,4 @@
-//! Quandles by name or table.
+//! Quandles in place, of at most `MAX_ORDER` colours, by name or by table.
 ghost use Rattle.std.specs.Prelude.{◌≡◌, ◌≤◌, false, is_none, is_some, IfOk, IfErr, IfSome};
 ghost use Rattle.quandle_core.specs.declared.quandle.TheConstants.{MAX_ORDER};
 ghost use Rattle.quandle_core.specs.Fault.{first_fault_within};

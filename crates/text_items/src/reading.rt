@@ -14,7 +14,7 @@ pub const MAX_PLACE: u32 = u8::MAX as u32;
 /// The greatest absolute value of a letter of a step line.
 pub const MAX_LETTER: u64 = i8::MAX as u64;
 
-/// The line that is due.
+/// The line that is due, or the fault that the text ends.
 #[tactic(auto, unfolding(crate::specs::Reading::next_line))]
 pub fn next_line<'a>(lines: &mut Lines<'a>) -> Result<Line<'a>, TextFault>
     ensures { Gives (λ l. (l, lines.new)) result (next_line lines.old) }
@@ -27,7 +27,7 @@ pub fn next_line<'a>(lines: &mut Lines<'a>) -> Result<Line<'a>, TextFault>
     }
 }
 
-/// No line is left.
+/// The end of a text: no line is left.
 #[tactic(auto, unfolding(crate::specs::Reading::text_end))]
 pub fn text_end(lines: &mut Lines) -> Result<(), TextFault>
     ensures { Gives (λ _. tt) result (text_end lines.old) }
@@ -40,7 +40,7 @@ pub fn text_end(lines: &mut Lines) -> Result<(), TextFault>
     }
 }
 
-/// The token that is due.
+/// The token that is due, or the fault that the line ends.
 #[tactic(auto, unfolding(crate::specs::Reading::next_token))]
 pub fn next_token<'a>(line: &mut Line<'a>) -> Result<&'a [u8], TextFault>
     ensures { Gives (λ t. (t.now, line.new)) result (next_token line.old) }
@@ -53,7 +53,7 @@ pub fn next_token<'a>(line: &mut Line<'a>) -> Result<&'a [u8], TextFault>
     }
 }
 
-/// No token is left.
+/// The end of a line: no token is left.
 #[tactic(auto, unfolding(crate::specs::Reading::line_end))]
 pub fn line_end(line: &mut Line) -> Result<(), TextFault>
     ensures { Gives (λ _. line.new) result (line_end line.old) }
@@ -66,7 +66,7 @@ pub fn line_end(line: &mut Line) -> Result<(), TextFault>
     }
 }
 
-/// This word.
+/// The token that is due, which must be this word.
 #[tactic(auto, unfolding(crate::specs::Reading::word))]
 pub fn word(line: &mut Line, expected: &[u8]) -> Result<(), TextFault>
     ensures { Gives (λ _. line.new) result (word expected.now line.old) }

@@ -13,7 +13,7 @@ use crate::reading::next_line;
 use std::alloc::{AllocFailed, Global};
 use text_lines::{Line, Lines};
 
-/// So many numbers below a bound, which is at most 255. Else the fault of the line, or want of memory.
+/// So many numbers below a bound, which is at most 255, on the heap. Else the fault of the line, or want of memory.
 #[tactic(auto, unfolding(crate::specs::NumberLines::numbers_below))]
 pub fn numbers_below(
     alloc: Global,
@@ -50,7 +50,7 @@ fn all_below(list: &[u32], bound: u8) -> bool
     list.iter().all(|value| *value < most)
 }
 
-/// The same numbers, each cut down to at most 255.
+/// The numbers of a list, each cut down to at most 255.
 fn narrowed(alloc: Global, list: &[u32]) -> Result<Vec<u8>, AllocFailed<u8>>
     ensures { IfOk result (λ v. v.items ≡ map low list.now) }
 {

@@ -1,5 +1,6 @@
 -- Items of one line, of two, and of a modulus and its table are refused by their first lines.
-use Rattle.std.proofs.Common.{◌≡◌, ◌∙◌, ℕ, ◌||◌, ◌==◌, Bool, true, false, cond, List, [], ◌∷◌, codes, Option, Some, None, Result, Ok, Err, nat_le, nat_lt, is_none, refl, ap, sym, arith}
+use Rattle.std.proofs.Common.{◌≡◌, ◌∙◌, ℕ, ◌||◌, ◌==◌, Bool, true, false, cond, List, [], ◌∷◌, codes, Option, Some, None, Result, Ok, Err, nat_le, nat_lt}
+use Rattle.std.proofs.Common.{is_none, refl, ap, sym, arith}
 use Rattle.std.specs.Str.{bytes_eq}
 use Rattle.quandle_core.specs.Quandle.{Table}
 use Rattle.cocycle_core.specs.Fault.{first_cocycle_fault}

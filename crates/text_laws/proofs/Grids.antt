@@ -1,7 +1,9 @@
 -- The first fault of two lists of rows by column.
-use Rattle.std.proofs.Common.{◌≡◌, ◌≢◌, ◌<◌, ◌≤◌, ◌∙◌, ◌==◌, ◌||◌, ◌&&◌, inl, inr, ℕ, List, Bool, true, false, not, Option, Some, None, length, get_or, take, slice_index, nat_le, zero, suc, arith, sym, ap, ap₂, subst, refl, zero-add}
+use Rattle.std.proofs.Common.{◌≡◌, ◌≢◌, ◌<◌, ◌≤◌, ◌∙◌, ◌==◌, ◌||◌, ◌&&◌, inl, inr, ℕ, List, Bool, true, false, not, Option, Some, None, length, get_or, take}
+use Rattle.std.proofs.Common.{slice_index, nat_le, zero, suc, arith, sym, ap, ap₂, subst, refl, zero-add}
 use Rattle.std.specs.List.{range_with_len}
-use Rattle.std.proofs.lemmas.Bool.{and_parts, and_from, or_cases, or_parts, both_ways, not-false, not-true, leb-true, leb-false, le-leb, eqb-true, eqb-false, cases_lt}
+use Rattle.std.proofs.lemmas.Bool.{and_parts, and_from, or_cases, or_parts, both_ways, not-false, not-true, leb-true, leb-false, le-leb, eqb-true, eqb-false}
+use Rattle.std.proofs.lemmas.Bool.{cases_lt}
 use Rattle.std.proofs.lemmas.List.{get_or-take, length-take, get_or_default}
 use Rattle.std.proofs.lemmas.List.Folds.{Any-from_list_any}
 use Rattle.std.proofs.lemmas.List.FromFn.{get_or-range_with_len, length-range_with_len}

@@ -24,7 +24,8 @@ use Rattle.text_items.specs.Reading.{◌>>=◌, next_token, line_end, word, or_m
 use Rattle.text_items.specs.NumberLines.{is_long, numbers_behind, numbers_below}
 use Rattle.text_items.specs.Grids.{are_rows, x_at, o_at, grid_item}
 use Rattle.text_items.specs.Braids.{letter_of, exceeds, braid_of, braid_at, braid_item}
-use Rattle.verdict_text.specs.Moves.{last_place, one_place, shift, exchange, slide, kind_at, corner_at, stabilise, destabilise, move_at, next_move, moves_item, on_axis}
+use Rattle.verdict_text.specs.Moves.{last_place, one_place, shift, exchange, slide, kind_at, corner_at, stabilise, destabilise, move_at, next_move, moves_item}
+use Rattle.verdict_text.specs.Moves.{on_axis}
 use Rattle.verdict_text.specs.Moves.{tidy_move_at, tidy_move, tidy_moves}
 use Rattle.text_items.specs.Quandles.{with_order, alexander_at, tetrahedral_at, written_at, is_over, meant, table_row, table_rows}
 use Rattle.text_items.specs.Quandles.{table_item, quandle_of, quandle_at, quandle_item, surplus_quandle, quandles, quandle_list}

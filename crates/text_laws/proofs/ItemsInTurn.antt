@@ -148,7 +148,8 @@ lists_turn version one two n name text =
     then_by (quandle_at MAX_ORDER (line_of n name) text) _ _
     (λ q. then_by (list_item one q.0.table.order q.1) _ _ (λ first. only_fault (list_item two q.0.table.order first.1) _))
 
-different_by : (version : Version) (one two n : ℕ) (tokens : List (List ℕ)) (text : Text) → starts (codes "different") tokens ≡ true → Differs version one two n tokens text
+different_by : (version : Version) (one two n : ℕ) (tokens : List (List ℕ)) (text : Text) → starts (codes "different") tokens ≡ true
+    → Differs version one two n tokens text
 different_by version one two n [] text is = absurd cc
 different_by version one two n (m ∷ name) text is =
     chosen (codes "different") m (λ w. Differs version one two n (w ∷ name) text) is (lists_turn version one two n name text)

@@ -17,7 +17,8 @@ use Rattle.text_items.specs.declared.fault.TextFault.TheVariants.{Malformed}
 use Rattle.text_items.specs.declared.reading.TheConstants.{MAX_PLACE}
 use Rattle.text_items.specs.Reading.{◌>>=◌, next_token, line_end, number, last_number, at_most}
 use Rattle.verdict_text.specs.Moves.{last_place, one_place, on_axis, shift, exchange, slide, kind_at, corner_at, stabilise, destabilise, move_at}
-use Rattle.text_laws.specs.LineKinds.{read_fault, fault_by, kind_fault, FailsByKind, worth, Form, has_form, one_of, is_above, is_axis, is_kind, is_corner, move_kind}
+use Rattle.text_laws.specs.LineKinds.{read_fault, fault_by, kind_fault, FailsByKind, worth, Form, has_form, one_of, is_above, is_axis, is_kind, is_corner}
+use Rattle.text_laws.specs.LineKinds.{move_kind}
 use Rattle.knot_text.proofs.StepsAgain.{line_of}
 use Rattle.text_laws.proofs.Worths.{kept, above_kept}
 use Rattle.text_laws.proofs.StepFaults.{most_by, place_by, chosen, either}

@@ -1,5 +1,6 @@
 -- The first fault of a move.
-use Rattle.std.proofs.Common.{◌≡◌, ◌<◌, ◌≤◌, ◌+◌, ◌∙◌, ◌==◌, ◌&&◌, ◌||◌, ◌⊎◌, inl, inr, ℕ, zero, suc, true, false, not, nat_lt, Option, Some, None, arith, ap, ap₂, sym, subst, refl}
+use Rattle.std.proofs.Common.{◌≡◌, ◌<◌, ◌≤◌, ◌+◌, ◌∙◌, ◌==◌, ◌&&◌, ◌||◌, ◌⊎◌, inl, inr, ℕ, zero, suc, true, false, not, nat_lt, Option, Some, None, arith, ap}
+use Rattle.std.proofs.Common.{ap₂, sym, subst, refl}
 use Rattle.std.proofs.lemmas.Bool.{and_cases, and_parts, and_from, not_from_false, not-true, ltb-true, ltb-false, eqb-true, eqb-false, both_ways}
 use Rattle.std.proofs.lemmas.Bool.Decides.{not_from_Decides}
 use Rattle.grid_core.specs.declared.grid.TheConstants.{MAX_SIZE}
@@ -10,7 +11,8 @@ use Rattle.grid_core.specs.Diagram.{Diagram, size, row_of}
 use Rattle.grid_core.specs.Span.{span, share_an_end, share_both_ends, are_disjoint, are_nested}
 use Rattle.grid_core.specs.Parts.{column_of}
 use Rattle.grid_moves.specs.declared.step.Move.{Move}
-use Rattle.grid_moves.specs.declared.step.Move.TheVariants.{ShiftColumns, ShiftRows, ExchangeColumns, ExchangeRows, SlideColumns, SlideRows, Stabilise, Destabilise}
+use Rattle.grid_moves.specs.declared.step.Move.TheVariants.{ShiftColumns, ShiftRows, ExchangeColumns, ExchangeRows, SlideColumns, SlideRows, Stabilise}
+use Rattle.grid_moves.specs.declared.step.Move.TheVariants.{Destabilise}
 use Rattle.grid_moves.specs.declared.step.MoveFault.{MoveFault}
 use Rattle.grid_moves.specs.declared.step.MoveFault.TheVariants.{Range, Touching, Interleaved, Block, Full, Apart}
 use Rattle.grid_moves.specs.Destabilisation.{marks_in_block}

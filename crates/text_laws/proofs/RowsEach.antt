@@ -1,5 +1,6 @@
 -- The rows that a line of Xs may have are each number below their number once.
-use Rattle.std.proofs.Common.{◌≡◌, ◌<◌, ◌≤◌, ◌↔◌, ◌==◌, ◌∙◌, ℕ, List, [], ◌∷◌, Bool, true, false, not, length, get_or, take, nat_le, nat_lt, arith, refl, sym, ap, inl, inr, zero-add}
+use Rattle.std.proofs.Common.{◌≡◌, ◌<◌, ◌≤◌, ◌↔◌, ◌==◌, ◌∙◌, ℕ, List, [], ◌∷◌, Bool, true, false, not, length, get_or, take, nat_le, nat_lt, arith, refl, sym}
+use Rattle.std.proofs.Common.{ap, inl, inr, zero-add}
 use Rattle.std.specs.List.{AllByRecursion, list_all, list_any, range_with_len}
 use Rattle.std.proofs.lemmas.Bool.{ltb-true, leb-true, cases_order, eq-eqb, and_parts, not-true}
 use Rattle.std.proofs.lemmas.List.{get_or-take, length-take}

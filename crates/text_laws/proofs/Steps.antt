@@ -1,9 +1,12 @@
 -- The first fault of a step of a braid.
-use Rattle.std.proofs.Common.{◌≡◌, ◌<◌, ◌≤◌, ◌+◌, ◌-◌, ◌*◌, ◌∙◌, ◌==◌, ◌&&◌, ◌||◌, ◌⊎◌, inl, inr, ℕ, zero, suc, ℤ, pos, negsuc, neg_ℤ, unsigned_abs, List, [], ◌∷◌, ◌++◌}
-use Rattle.std.proofs.Common.{Bool, true, false, not, nat_lt, nat_le, cond, Option, Some, None, length, take, drop, get_or, length-append, arith, ap, ap₂, sym, subst, refl}
+use Rattle.std.proofs.Common.{◌≡◌, ◌<◌, ◌≤◌, ◌+◌, ◌-◌, ◌*◌, ◌∙◌, ◌==◌, ◌&&◌, ◌||◌, ◌⊎◌, inl, inr, ℕ, zero, suc, ℤ, pos, negsuc, neg_ℤ, unsigned_abs, List, []}
+use Rattle.std.proofs.Common.{◌∷◌, ◌++◌}
+use Rattle.std.proofs.Common.{Bool, true, false, not, nat_lt, nat_le, cond, Option, Some, None, length, take, drop, get_or, length-append, arith, ap, ap₂, sym}
+use Rattle.std.proofs.Common.{subst, refl}
 use Rattle.std.specs.List.{list_all}
 use Rattle.std.specs.Ordering.{int_eq}
-use Rattle.std.proofs.lemmas.Bool.{and_cases, and_parts, and_from, or_left, or_right, or_cases, or_parts, not-true, not-false, not_from_false, ltb-true, ltb-false, lt-ltb, leb-true, leb-false, le-leb, eqb-true, eq-eqb, ne_eqb, both_ways}
+use Rattle.std.proofs.lemmas.Bool.{and_cases, and_parts, and_from, or_left, or_right, or_cases, or_parts, not-true, not-false, not_from_false, ltb-true}
+use Rattle.std.proofs.lemmas.Bool.{ltb-false, lt-ltb, leb-true, leb-false, le-leb, eqb-true, eq-eqb, ne_eqb, both_ways}
 use Rattle.std.proofs.lemmas.Bool.Decides.{Decides-int_eq}
 use Rattle.std.proofs.lemmas.List.{take-append-drop, take_all, take_more, take-append-le, get_or-append_right}
 use Rattle.std.proofs.lemmas.List.Sums.{list_all-from_AllPass}

@@ -1,5 +1,6 @@
 -- A text that says the lines of two diagrams, a quandle and a cocycle of it is read as these.
-use Rattle.std.proofs.Common.{◌≡◌, ℕ, suc, ◌≤◌, ◌+◌, ◌-◌, List, [], ◌∷◌, ◌++◌, map, true, cond, Result, Ok, Err, refl, sym, ap, subst, ◌∙◌, arith, codes, nat_le}
+use Rattle.std.proofs.Common.{◌≡◌, ℕ, suc, ◌≤◌, ◌+◌, ◌-◌, List, [], ◌∷◌, ◌++◌, map, true, cond, Result, Ok, Err, refl, sym, ap, subst, ◌∙◌, arith, codes}
+use Rattle.std.proofs.Common.{nat_le}
 use Rattle.std.specs.Prelude.{is_none}
 use Rattle.std.specs.List.{flat_map, range_with_len}
 use Rattle.std.specs.Fmt.{decimal}

@@ -1,5 +1,6 @@
 -- The first fault of a number of strands and a list of letters.
-use Rattle.std.proofs.Common.{◌≡◌, ◌<◌, ◌+◌, ◌*◌, ◌&&◌, inl, inr, ℕ, pos, Bool, true, false, not, Option, Some, None, length, get_or, nat_lt, nat_le, ◌∙◌, zero, suc, arith, sym, ap₂, subst, refl}
+use Rattle.std.proofs.Common.{◌≡◌, ◌<◌, ◌+◌, ◌*◌, ◌&&◌, inl, inr, ℕ, pos, Bool, true, false, not, Option, Some, None, length, get_or, nat_lt, nat_le, ◌∙◌, zero}
+use Rattle.std.proofs.Common.{suc, arith, sym, ap₂, subst, refl}
 use Rattle.std.specs.List.{position}
 use Rattle.std.proofs.lemmas.Bool.{and_parts, leb-true, and_from, both_ways, not-false, not-true, ltb-true, le-leb, cases_lt}
 use Rattle.std.proofs.lemmas.List.Quantifiers.{position-Some}

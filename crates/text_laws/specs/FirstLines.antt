@@ -1,5 +1,6 @@
 -- What an item fails by: its first line, else what this line asks for behind it.
-use Rattle.std.specs.Prelude.{◌≡◌, ◌-◌, ℕ, zero, suc, ◌&&◌, Bool, true, false, List, [], ◌∷◌, ◌++◌, codes, map, Option, Some, None, Result, Ok, Err, if◌then◌else◌}
+use Rattle.std.specs.Prelude.{◌≡◌, ◌-◌, ℕ, zero, suc, ◌&&◌, Bool, true, false, List, [], ◌∷◌, ◌++◌, codes, map, Option, Some, None, Result, Ok, Err}
+use Rattle.std.specs.Prelude.{if◌then◌else◌}
 use Rattle.std.specs.List.{list_any}
 use Rattle.std.specs.Str.{bytes_eq}
 use Rattle.text_lines.specs.Lines.{NumberedLine, Text, starts}
@@ -26,7 +27,7 @@ abbrev pub BeginsBy : {A : Type 0} → LineKind → (List (List ℕ) → Text �
 BeginsBy kind behind item =
     (line : NumberedLine) (text : Text) → read_fault (item (on_top line text)) ≡ or_later (kind_fault kind line) (behind line.tokens text)
 
--- the same of each line with this word in front
+-- an item that begins with a line with this word in front has its fault by this kind, else that of what its tokens ask for behind it
 abbrev pub BeginsWith : {A : Type 0} → List ℕ → LineKind → (List (List ℕ) → Text → Option TextFault) → (Text → Result A TextFault) → Type 0
 BeginsWith word kind behind item =
     (line : NumberedLine) (text : Text) → starts word line.tokens ≡ true
@@ -38,7 +39,7 @@ FailsWith word kind item =
     (line : NumberedLine) (text : Text) (fault : TextFault) → starts word line.tokens ≡ true → kind_fault kind line ≡ Some fault
     → read_fault (item (on_top line text)) ≡ Some fault
 
--- the same of each line with another word in front, or none
+-- an item that begins with another word, or none, has the fault of its line by this kind, else that of what its tokens ask for behind it
 abbrev pub BeginsElse : {A : Type 0} → List ℕ → LineKind → (List (List ℕ) → Text → Option TextFault) → (Text → Result A TextFault) → Type 0
 BeginsElse word kind behind item =
     (line : NumberedLine) (text : Text) → starts word line.tokens ≡ false
@@ -66,7 +67,7 @@ fault_among kind (suc count) (line ∷ lines) ending = or_later (kind_fault kind
 abbrev pub lines_fault : LineKind → ℕ → Text → Option TextFault
 lines_fault kind count text = fault_among kind count text.lines text.ending
 
--- the same of so many move lines of a tidy list, each by its kind behind the tokens of the one before it
+-- the fault of so many move lines of a tidy list, each by its kind behind the tokens of the one before it
 abbrev pub tidy_among : List (List ℕ) → ℕ → List NumberedLine → ℕ → Option TextFault
 tidy_among before zero lines ending = None
 tidy_among before (suc count) [] ending = Some (Malformed ending)

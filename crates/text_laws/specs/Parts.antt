@@ -1,7 +1,8 @@
 -- The parts of a list of tries.
 use Rattle.std.specs.Prelude.{ℕ}
 use Rattle.grid_moves.specs.declared.step.Move.{Move}
-use Rattle.grid_moves.specs.declared.step.Move.TheVariants.{ShiftColumns, ShiftRows, ExchangeColumns, ExchangeRows, SlideColumns, SlideRows, Stabilise, Destabilise}
+use Rattle.grid_moves.specs.declared.step.Move.TheVariants.{ShiftColumns, ShiftRows, ExchangeColumns, ExchangeRows, SlideColumns, SlideRows, Stabilise}
+use Rattle.grid_moves.specs.declared.step.Move.TheVariants.{Destabilise}
 
 -- trades of columns, trades of rows, destabilisations, stabilisations; shifts are in none
 abbrev pub part : Move → ℕ

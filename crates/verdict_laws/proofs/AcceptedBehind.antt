@@ -63,7 +63,8 @@ lines_length (line ∷ lines) =
 pub short : (bytes : List ℕ) (v : Verdict) → length (put_behind bytes (version_text Tidy v)) ≤ MAX_CERTIFICATE → HasFewMoves v
 short bytes (Equal moves) fits = by (are_whole_lines bytes) fits
   where
-    by : (t : Bool) → length (if t then bytes ++ version_text Tidy (Equal moves) else bytes ++ (codes "\n" ++ version_text Tidy (Equal moves))) ≤ MAX_CERTIFICATE
+    by : (t : Bool)
+        → length (if t then bytes ++ version_text Tidy (Equal moves) else bytes ++ (codes "\n" ++ version_text Tidy (Equal moves))) ≤ MAX_CERTIFICATE
         → length moves ≤ MAX_NUMBER
     by true fits =
         let lines = lines_length (version_lines Tidy (Equal moves)) in

@@ -15,7 +15,7 @@ use Rattle.evidence_core.specs.declared.cause.Cause.{Cause}
 use Rattle.evidence_core.specs.declared.cause.Cause.TheVariants as cause
 use Rattle.number_check.specs.Cause.{IsSeedCause, IsCauseOf, counts_cause, IsEvidenceCause}
 use Rattle.evidence_core.specs.Links.{cause_of_links}
-use Rattle.number_check.specs.Ruling.{RulesOnNumbers}
+use Rattle.number_check.specs.Ruling.{RulesOnEvidence}
 use Rattle.number_check.proofs.Causes.{seeds_faultless, numbers_have_no_cause}
 use Rattle.number_check.proofs.Rulings.{not_held}
 
@@ -106,7 +106,8 @@ one_cause d e (Numbers b first second) x y one two = elim one [
 ]
 one_cause d e (Linking first second) x y one two = some_once (cause_of_links d e first second) x y one two
 
-pub one_ruling : (d e : Diagram) (evidence : Evidence) (one two : NumberRuling) → RulesOnNumbers d e evidence one → RulesOnNumbers d e evidence two → one ≡ two
+pub one_ruling : (d e : Diagram) (evidence : Evidence) (one two : NumberRuling)
+    → RulesOnEvidence d e evidence one → RulesOnEvidence d e evidence two → one ≡ two
 one_ruling d e evidence Accepted Accepted one two = refl
 one_ruling d e evidence Accepted (Rejected c) one two = absurd (not_held d e evidence c two one)
 one_ruling d e evidence (Rejected c) Accepted one two = absurd (not_held d e evidence c one two)

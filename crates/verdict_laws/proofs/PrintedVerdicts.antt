@@ -7,7 +7,8 @@ use Rattle.arrayvec.specs.ArrayVec.{ArrayVec}
 use Rattle.grid_core.specs.Diagram.{Diagram, IsGrid, size}
 use Rattle.grid_core.specs.Parts.{bottoms}
 use Rattle.grid_moves.specs.declared.step.Move.{Move}
-use Rattle.grid_moves.specs.declared.step.Move.TheVariants.{ShiftColumns, ShiftRows, ExchangeColumns, ExchangeRows, SlideColumns, SlideRows, Stabilise, Destabilise}
+use Rattle.grid_moves.specs.declared.step.Move.TheVariants.{ShiftColumns, ShiftRows, ExchangeColumns, ExchangeRows, SlideColumns, SlideRows, Stabilise}
+use Rattle.grid_moves.specs.declared.step.Move.TheVariants.{Destabilise}
 use Rattle.grid_moves.specs.Step.{Step}
 use Rattle.grid_moves.specs.Joining.{Joins}
 use Rattle.quandle_core.specs.Quandle.{Table, IsQuandle}
@@ -53,7 +54,8 @@ moves_text moves d e joins few = record { count = few; each = each_move moves d 
 -- ---- lists of colourings
 
 -- what is kept passes the test
-kept_by : (p : List ℕ → Bool) (x : List ℕ) (rest : List (List ℕ)) (t : Bool) → p x ≡ t → AllByRecursion (λ y. p y ≡ true) rest → AllByRecursion (λ y. p y ≡ true) (cond t (x ∷ rest) rest)
+kept_by : (p : List ℕ → Bool) (x : List ℕ) (rest : List (List ℕ)) (t : Bool) → p x ≡ t → AllByRecursion (λ y. p y ≡ true) rest
+    → AllByRecursion (λ y. p y ≡ true) (cond t (x ∷ rest) rest)
 kept_by p x rest true is all = (is, all)
 kept_by p x rest false is all = all
 
@@ -69,7 +71,8 @@ of_items : (Q : List ℕ → Type 0) (lists : List (ArrayVec ℕ)) → AllByRecu
 of_items Q [] all = search rules
 of_items Q (c ∷ lists) all = (all.0, of_items Q lists all.1)
 
-lists_text : (t : Table) (d : Diagram) (lists : List (ArrayVec ℕ)) → lists_of lists ≡ colourings t d → length lists ≤ MAX_COLOURINGS → HasListText (size d) t.order lists
+lists_text : (t : Table) (d : Diagram) (lists : List (ArrayVec ℕ)) → lists_of lists ≡ colourings t d → length lists ≤ MAX_COLOURINGS
+    → HasListText (size d) t.order lists
 lists_text t d lists is few = record {
   count = few;
   each = of_items (AreColours (size d) t.order) lists (subst (AllByRecursion (AreColours (size d) t.order)) (sym is)
@@ -83,7 +86,8 @@ abbrev pub FewColourings : Type 0
 FewColourings = (t : Table) (d : Diagram) → IsQuandle t → IsGrid d → length (colourings t d) ≤ t.order ^ bottoms d
 
 -- so the complete list of a quandle that fits is not too long
-few_listed : FewColourings → (t : Table) (d : Diagram) → IsQuandle t → IsGrid d → fits t d ≡ true → (lists : List (ArrayVec ℕ)) → lists_of lists ≡ colourings t d
+few_listed : FewColourings → (t : Table) (d : Diagram) → IsQuandle t → IsGrid d → fits t d ≡ true → (lists : List (ArrayVec ℕ))
+    → lists_of lists ≡ colourings t d
     → length lists ≤ MAX_COLOURINGS
 few_listed few t d quandle grid fitting lists complete =
     let within = leb-true (t.order ^ bottoms d) MAX_COLOURINGS fitting in
@@ -109,7 +113,8 @@ held_text few d e (UnknownBudget budget) first second written holds short = absu
 held_text few d e (UnknownExhausted cap k) first second written holds short = absurd holds
 
 -- what is found stands in the list
-found_by : (P : NamedQuandle → Type 0) (p : NamedQuandle → Bool) (q r : NamedQuandle) (rest : List NamedQuandle) (t : Bool) → cond t (Some q) (find p rest) ≡ Some r → P q → (find p rest ≡ Some r → P r) → P r
+found_by : (P : NamedQuandle → Type 0) (p : NamedQuandle → Bool) (q r : NamedQuandle) (rest : List NamedQuandle) (t : Bool)
+    → cond t (Some q) (find p rest) ≡ Some r → P q → (find p rest ≡ Some r → P r) → P r
 found_by P p q r rest true is here later = let same : q ≡ r = cc in subst P same here
 found_by P p q r rest false is here later = later is
 

@@ -1,5 +1,6 @@
 -- From any columns the rows lead as far as they do: so columns settle a diagram, by a plan, or they are at fault.
-use Rattle.std.proofs.Common.{◌≡◌, ◌<◌, ◌≤◌, ◌+◌, ◌++◌, ◌∙◌, ◌⊎◌, inl, inr, ℕ, zero, suc, List, [], ◌∷◌, Bool, true, false, Option, Some, None, length, slice_index, refl, subst, arith}
+use Rattle.std.proofs.Common.{◌≡◌, ◌<◌, ◌≤◌, ◌+◌, ◌++◌, ◌∙◌, ◌⊎◌, inl, inr, ℕ, zero, suc, List, [], ◌∷◌, Bool, true, false, Option, Some, None, length}
+use Rattle.std.proofs.Common.{slice_index, refl, subst, arith}
 use Rattle.std.specs.List.{All}
 use Rattle.std.proofs.lemmas.Bool.{cases_lt, both_ways}
 use Rattle.std.proofs.lemmas.List.Elements.{All-nil, All-cons, All-head, All-tail}
@@ -34,7 +35,8 @@ end_of : (n : ℕ) (d : Diagram) (g : Progress) (steps : List Step) → IsGrid d
 end_of zero d g steps grid leads few = absurd (omega (arith, few))
 end_of (suc n) d g steps grid leads few = by (next_step d g) refl (λ h later on fewer. end_of n d h later grid on fewer)
   where
-    by : (o : Option Step) → next_step d g ≡ o → ((h : Progress) (later : List Step) → LeadsBySteps d nothing later h → unread h < n → EndOf d h later) → EndOf d g steps
+    by : (o : Option Step) → next_step d g ≡ o → ((h : Progress) (later : List Step) → LeadsBySteps d nothing later h → unread h < n → EndOf d h later)
+        → EndOf d g steps
     by None stuck again = record { steps = steps; last = g; leads = leads; stuck = stuck; reaches = reaches_itself d g; few = refl }
     by (Some s) is again =
         let next : Next d g s = step_next d steps g s (next_step d g) grid leads refl is in
@@ -169,7 +171,8 @@ determine_or_fault d seeds grid = elim (first_outside d seeds) [
   | inl inside ↦ columns inside (way_of d seeds grid inside)
 ]
   where
-    columns : All (λ s. s < size d) seeds → WayOf d seeds → Determine seeds d ⊎ (((c : ℕ) × IsFault seeds d (Outside c)) ⊎ ((c : ℕ) × IsFault seeds d (Unsettled c)))
+    columns : All (λ s. s < size d) seeds → WayOf d seeds
+        → Determine seeds d ⊎ (((c : ℕ) × IsFault seeds d (Outside c)) ⊎ ((c : ℕ) × IsFault seeds d (Unsettled c)))
     columns inside w = elim (first_unknown (size d) w.last) [
       | inl all ↦ inl (record { columns = inside; all = λ c lt. w.settled c (all c lt) })
       | inr some ↦

@@ -17,7 +17,7 @@ use Rattle.evidence_core.specs.Unequal.{first_unequal}
 use Rattle.number_check.specs.EvidenceHolds.{AreNumbersOf}
 use Rattle.number_check.specs.Cause.{counts_cause, IsCauseOf}
 use Rattle.evidence_core.specs.Links.{cause_of_links}
-use Rattle.number_check.specs.Ruling.{RulesOnNumbers}
+use Rattle.number_check.specs.Ruling.{RulesOnEvidence}
 use Rattle.evidence_core.proofs.FirstUnequal.{equal_of_none, none_of_equal}
 use Rattle.number_check.proofs.Causes.{itself, numbers_hold}
 use Rattle.evidence_core.proofs.LinksOfGrids.{links_hold}
@@ -41,7 +41,7 @@ counts_or_cause b which d c grid = elim (determine_or_fault d c.seeds.items grid
     by settled (Some why) is = inr (why, inr (settled, is))
 
 abbrev SomeRuling : Diagram → Diagram → Evidence → Type 0
-SomeRuling d e evidence = (ruling : NumberRuling) × RulesOnNumbers d e evidence ruling
+SomeRuling d e evidence = (ruling : NumberRuling) × RulesOnEvidence d e evidence ruling
 
 numbers_ruled : (d e : Diagram) (b : Block) (one two : Counted) → AreNumbersOf b d one → AreNumbersOf b e two → SomeRuling d e (Numbers b one two)
 numbers_ruled d e b one two first second = by (first_unequal nat_eq one.numbers two.numbers) refl
@@ -67,7 +67,7 @@ links_ruled d e one two = by (cause_of_links d e one two) refl
     by None none = (Accepted, links_hold d e one two none)
     by (Some why) is = (Rejected why, is)
 
-pub some_ruling : (d e : Diagram) (evidence : Evidence) → IsGrid d → IsGrid e → (ruling : NumberRuling) × RulesOnNumbers d e evidence ruling
+pub some_ruling : (d e : Diagram) (evidence : Evidence) → IsGrid d → IsGrid e → (ruling : NumberRuling) × RulesOnEvidence d e evidence ruling
 some_ruling d e (Numbers b one two) first second = elim (counts_or_cause b 1 d one first) [
   | inr why ↦ (Rejected why.0, inl why.1)
   | inl of_first ↦ elim (counts_or_cause b 2 e two second) [

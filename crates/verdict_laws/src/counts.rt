@@ -10,7 +10,7 @@ ghost use Rattle.evidence_core.specs.declared.evidence.Linked.{Linked};
 ghost use Rattle.evidence_core.specs.declared.evidence.Evidence.{Evidence};
 ghost use Rattle.evidence_core.specs.declared.evidence.Evidence.TheVariants.{Numbers, Linking};
 ghost use Rattle.number_check.specs.EvidenceHolds.{EvidenceHolds};
-ghost use Rattle.number_check.specs.Ruling.{RulesOnNumbers};
+ghost use Rattle.number_check.specs.Ruling.{RulesOnEvidence};
 
 use number_check::NumberRuling;
 
@@ -23,13 +23,13 @@ pub fn what_holds_tells_apart()
 
 /// The ruling is `Accepted` exactly where the evidence holds.
 pub fn evidence_is_accepted_exactly_where_it_holds()
-    ensures { (d e : Diagram) (evidence : Evidence) (ruling : NumberRuling) → RulesOnNumbers d e evidence ruling
+    ensures { (d e : Diagram) (evidence : Evidence) (ruling : NumberRuling) → RulesOnEvidence d e evidence ruling
         → (ruling ≡ NumberRuling.Accepted) ↔ EvidenceHolds d e evidence }
 {}
 
 /// On all evidence on two grids there is exactly one ruling.
 pub fn evidence_has_exactly_one_ruling()
-    ensures some { (d e : Diagram) (evidence : Evidence) → IsGrid d → IsGrid e → (ruling : NumberRuling) × RulesOnNumbers d e evidence ruling }
-    ensures single { (d e : Diagram) (evidence : Evidence) (one two : NumberRuling) → RulesOnNumbers d e evidence one → RulesOnNumbers d e evidence two
+    ensures some { (d e : Diagram) (evidence : Evidence) → IsGrid d → IsGrid e → (ruling : NumberRuling) × RulesOnEvidence d e evidence ruling }
+    ensures single { (d e : Diagram) (evidence : Evidence) (one two : NumberRuling) → RulesOnEvidence d e evidence one → RulesOnEvidence d e evidence two
         → one ≡ two }
 {}

@@ -23,7 +23,7 @@ colourings_lines d t = if fits t d then listing_lines (colourings t d) else wide
 abbrev pub listed_text : Diagram → NamedQuandle → List ℕ
 listed_text d q = lines_text (quandle_lines (codes "quandle") q ++ colourings_lines d q.table)
 
--- the same of each quandle
+-- each quandle, and all colourings of a diagram by it
 abbrev pub colour_text : Diagram → List NamedQuandle → List ℕ
 colour_text d quandles = flat_map (listed_text d) quandles
 

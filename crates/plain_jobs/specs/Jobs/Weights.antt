@@ -1,11 +1,11 @@
 -- The job `weights`: two diagrams, a quandle and a cocycle of it, of either kind, are answered by the weights of the colourings of each diagram,
 -- and whether these differ.
-use Rattle.std.specs.Prelude.{◌≡◌, ℕ, Bool, List, [], ◌∷◌, ◌++◌, codes, map, nat_eq, if◌then◌else◌}
-use Rattle.std.specs.Cmp.Lexicographic.{pointwise}
+use Rattle.std.specs.Prelude.{◌≡◌, ℕ, List, [], ◌∷◌, ◌++◌, codes, map, if◌then◌else◌}
 use Rattle.std.specs.Fmt.{decimal}
 use Rattle.grid_core.specs.Diagram.{Diagram as Marks}
 use Rattle.grid_core.specs.Parts.{bottoms}
 use Rattle.colour_list.specs.Fits.{fits}
+use Rattle.colour_list.specs.Listing.{is_same}
 use Rattle.quandle_core.specs.Quandle.{Table}
 use Rattle.colour_weights.specs.Weights.{weights}
 use Rattle.colour_weights.specs.ShadowWeights.{shadow_weights}
@@ -31,13 +31,9 @@ table_by (Regions s) = s.cocycle.quandle
 abbrev pub weights_line : Weighing → Marks → List ℕ
 weights_line w d = line_text (codes "weights" ∷ map decimal (weights_by w d))
 
--- the two lists are alike: equal, place by place
-abbrev pub weights_are_alike : List ℕ → List ℕ → Bool
-weights_are_alike = pointwise nat_eq
-
--- the weights of both, and whether they are alike
+-- the weights of both, and whether they are alike: equal, place by place
 abbrev pub weighed_text : Weighing → Marks → Marks → List ℕ
-weighed_text w d e = weights_line w d ++ (weights_line w e ++ compared_line (weights_are_alike (weights_by w d) (weights_by w e)))
+weighed_text w d e = weights_line w d ++ (weights_line w e ++ compared_line (is_same (weights_by w d) (weights_by w e)))
 
 -- which of the two diagrams has too many choices of a colour for each bottom, and its number of bottoms
 abbrev pub wide_diagram_line : ℕ → Marks → List ℕ

@@ -112,7 +112,7 @@ fn counts(alloc: Global, grid: &Grid, cocycle: &Weighing) -> Result<Vec<u32>, Al
     }
 }
 
-/// The same by a 2-cocycle.
+/// For each weight by a 2-cocycle, how many colourings of a grid have it, where the quandle fits the grid.
 fn strand_counts(alloc: Global, grid: &Grid, cocycle: &Cocycle) -> Result<Vec<u32>, AllocError>
     requires { fits cocycle.now.quandle grid.now ≡ true }
     ensures { IfOk result (λ v. v.items ≡ weights cocycle.now grid.now) }
@@ -124,7 +124,7 @@ fn strand_counts(alloc: Global, grid: &Grid, cocycle: &Cocycle) -> Result<Vec<u3
     }
 }
 
-/// The same by a shadow cocycle.
+/// For each weight by a shadow cocycle, how many pairs of a colouring of a grid and an outer colour have it, where the quandle fits the grid.
 fn region_counts(
     alloc: Global,
     grid: &Grid,

@@ -1,4 +1,5 @@
-use Rattle.text_laws.proofs.ItemsInTurn.{front_turns, problem_turns, check_turns, replay_turns, colour_turns, close_turns, diagram_turns, pair_turns, braidcheck_turns, weight_turns}
+use Rattle.text_laws.proofs.ItemsInTurn.{front_turns, problem_turns, check_turns, replay_turns, colour_turns, close_turns, diagram_turns, pair_turns}
+use Rattle.text_laws.proofs.ItemsInTurn.{braidcheck_turns, weight_turns}
 use Rattle.text_laws.proofs.ItemsInTurn.{coloured_turns, list_turns, listed_turns, full_turns, different_turns}
 use Rattle.text_laws.proofs.laws.a_text_fails_by_its_items_in_turn.Goals as goal
 

@@ -1,6 +1,7 @@
 use Rattle.text_laws.proofs.HeadFaults.{moves_begin, steps_begin, list_begins, equal_begins, unknown_begins}
 use Rattle.text_laws.proofs.NameFaults.{quandle_begins, different_fails, others_fail}
-use Rattle.text_laws.proofs.FirstItems.{grid_begins, braid_begins, braid_diagram_begins, grid_diagram_begins, colours_begin, cocycle_begins, certificate_begins, plain_begins}
+use Rattle.text_laws.proofs.FirstItems.{grid_begins, braid_begins, braid_diagram_begins, grid_diagram_begins, colours_begin, cocycle_begins, certificate_begins}
+use Rattle.text_laws.proofs.FirstItems.{plain_begins}
 use Rattle.text_laws.proofs.SurplusFaults.{surplus_begins}
 use Rattle.text_laws.proofs.laws.an_item_fails_by_its_first_line_first.Goals as goal
 

@@ -8,14 +8,11 @@ use std::alloc::Global;
 /// The map of a code. Dart 4v + p is the end of an edge at crossing v in slot p; slots are counted counterclockwise from the one
 /// on which the strand under comes. A dart runs from its crossing along its edge.
 #[derive(Drop)]
-pub(crate) struct Plan {
+pub(crate) struct Sphere {
     /// How many darts there are.
     pub(crate) darts: usize,
-    /// The dart at the other end of the edge.
     pub(crate) twins: Vec<usize>,
-    /// Whether the strand leaves its crossing by the dart.
     pub(crate) leaves: Vec<bool>,
-    /// The face on the left of each dart.
     pub(crate) faces: Vec<usize>,
     /// A dart of each face.
     pub(crate) bounds: Vec<usize>,
@@ -25,12 +22,12 @@ pub(crate) struct Plan {
     pub(crate) roots: Vec<usize>,
 }
 
-impl Plan {
+impl Sphere {
     /// The map of a code.
-    pub(crate) fn of(alloc: Global, code: &Code) -> Result<Plan, OutOfMemory> {
+    pub(crate) fn of(alloc: Global, code: &Code) -> Result<Sphere, OutOfMemory> {
         let crossings = code.crossings.as_slice();
         let darts = crossings.len().wrapping_mul(4);
-        let mut plan = Plan {
+        let mut sphere = Sphere {
             darts,
             twins: table(alloc, darts)?,
             leaves: marks(alloc, darts)?,
@@ -39,10 +36,10 @@ impl Plan {
             parts: table(alloc, darts)?,
             roots: Vec::new(alloc),
         };
-        pair_up(alloc, &mut plan, crossings)?;
-        number_faces(alloc, &mut plan)?;
-        number_parts(alloc, &mut plan)?;
-        Ok(plan)
+        pair_up(alloc, &mut sphere, crossings)?;
+        number_faces(alloc, &mut sphere)?;
+        number_parts(alloc, &mut sphere)?;
+        Ok(sphere)
     }
 
     /// The dart at the other end of the edge.
@@ -87,8 +84,8 @@ fn edge_at(crossing: &Crossing, slot: usize) -> usize {
 }
 
 /// Joins the two ends of each edge, and marks the darts by which strands leave.
-fn pair_up(alloc: Global, plan: &mut Plan, crossings: &[Crossing]) -> Result<(), OutOfMemory> {
-    let mut seen = table(alloc, plan.darts)?;
+fn pair_up(alloc: Global, sphere: &mut Sphere, crossings: &[Crossing]) -> Result<(), OutOfMemory> {
+    let mut seen = table(alloc, sphere.darts)?;
     for (v, crossing) in crossings.iter().enumerate() {
         for slot in 0..4 {
             let dart = v.wrapping_mul(4).wrapping_add(slot);
@@ -97,8 +94,8 @@ fn pair_up(alloc: Global, plan: &mut Plan, crossings: &[Crossing]) -> Result<(),
             if other == 0 {
                 put(seen.as_mut_slice(), edge, dart.wrapping_add(1));
             } else {
-                put(plan.twins.as_mut_slice(), dart, other - 1);
-                put(plan.twins.as_mut_slice(), other - 1, dart);
+                put(sphere.twins.as_mut_slice(), dart, other - 1);
+                put(sphere.twins.as_mut_slice(), other - 1, dart);
             }
             let leaves = match slot {
                 0 => false,
@@ -106,53 +103,52 @@ fn pair_up(alloc: Global, plan: &mut Plan, crossings: &[Crossing]) -> Result<(),
                 2 => true,
                 _ => !crossing.positive,
             };
-            mark(plan.leaves.as_mut_slice(), dart, leaves);
+            mark(sphere.leaves.as_mut_slice(), dart, leaves);
         }
     }
     Ok(())
 }
 
 /// Numbers the faces in the order of their least darts.
-fn number_faces(alloc: Global, plan: &mut Plan) -> Result<(), OutOfMemory> {
-    let mut seen = marks(alloc, plan.darts)?;
-    for first in 0..plan.darts {
+fn number_faces(alloc: Global, sphere: &mut Sphere) -> Result<(), OutOfMemory> {
+    let mut seen = marks(alloc, sphere.darts)?;
+    for first in 0..sphere.darts {
         if marked(seen.as_slice(), first) {
             continue;
         }
-        let face = plan.bounds.len();
-        plan.bounds.push(first)?;
+        let face = sphere.bounds.len();
+        sphere.bounds.push(first)?;
         let mut dart = first;
-        for _ in 0..plan.darts {
+        for _ in 0..sphere.darts {
             if marked(seen.as_slice(), dart) {
                 break;
             }
             mark(seen.as_mut_slice(), dart, true);
-            put(plan.faces.as_mut_slice(), dart, face);
-            dart = plan.next_in_face(dart);
+            put(sphere.faces.as_mut_slice(), dart, face);
+            dart = sphere.next_in_face(dart);
         }
     }
     Ok(())
 }
 
 /// Numbers the connected parts in the order of their least crossings.
-fn number_parts(alloc: Global, plan: &mut Plan) -> Result<(), OutOfMemory> {
-    let mut seen = marks(alloc, plan.darts)?;
-    for first in 0..plan.darts {
+fn number_parts(alloc: Global, sphere: &mut Sphere) -> Result<(), OutOfMemory> {
+    let mut seen = marks(alloc, sphere.darts)?;
+    for first in 0..sphere.darts {
         if marked(seen.as_slice(), first) {
             continue;
         }
-        let part = plan.roots.len();
-        plan.roots.push(first)?;
+        let part = sphere.roots.len();
+        sphere.roots.push(first)?;
         let mut found = Vec::new(alloc);
         found.push(first)?;
         mark(seen.as_mut_slice(), first, true);
-        for next in 0..plan.darts {
-            if next >= found.len() {
+        for next in 0..sphere.darts {
+            let Some(dart) = found.as_slice().get(next).copied() else {
                 break;
-            }
-            let dart = found[next];
-            put(plan.parts.as_mut_slice(), dart, part);
-            for other in [plan.twin(dart), turned(dart, 1)] {
+            };
+            put(sphere.parts.as_mut_slice(), dart, part);
+            for other in [sphere.twin(dart), turned(dart, 1)] {
                 if !marked(seen.as_slice(), other) {
                     mark(seen.as_mut_slice(), other, true);
                     found.push(other)?;

@@ -4,7 +4,7 @@ use Rattle.quandle_core.specs.Quandle.{Table}
 use Rattle.colour_seeds.specs.declared.counting.TheConstants.{MAX_CANDIDATES}
 use Rattle.number_check.specs.EvidenceHolds.{table_by_block, choices_by}
 use Rattle.number_check.proofs.Causes.{fits_there}
-use Rattle.number_check.proofs.counts.cause_settled.Goals as goal
+use Rattle.number_check.proofs.counts.settled_cause.Goals as goal
 
 pub numbers_by-requires-clause-fits : goal.numbers_by-requires-clause-fits
 numbers_by-requires-clause-fits c =
