@@ -201,7 +201,8 @@ def long():
             rows = lines_of(path)
             if len(rows) > LONG_FILE:
                 print(f"{os.path.relpath(path, TOP)}: {len(rows)} lines")
-            for name, number, length in house_crates.functions_of(rows) if ending == ".rt" else ():
+            for name, number, opens, last in house_crates.functions_of(rows) if ending == ".rt" else ():
+                length = last - opens
                 if length > LONG_FUNCTION and re.search(r"tests(?:/\w+)?\.rt$", path):
                     tests += 1
                 elif length > LONG_FUNCTION:

@@ -87,10 +87,10 @@ def floors(top=TOP):
 
 
 def functions_of(rows):
-    """The functions of a file in rt fmt's layout: name, number of the first line, and how many lines the body takes, with its last brace.
+    """The functions of a file in rt fmt's layout: name, and the numbers of the first line, of the one in which the body opens, and of the last.
 
     The body opens with a brace alone, behind a contract, or with one at the end of the signature, where there is none. A function of a
-    trait without a body has none."""
+    trait without a body has that line for its last too."""
     for number, row in enumerate(rows, 1):
         found = FUNCTION.match(row)
         if found:
@@ -101,10 +101,10 @@ def functions_of(rows):
                 if own in (indent + "{}", indent + "{") or is_signature and own.endswith(("{", "}")):
                     is_open = own.endswith("{")
                     last = next((place for place, later in enumerate(rows[at:], at + 1) if later.rstrip() == indent + "}"), at) if is_open else at
-                    yield name, number, last - at
+                    yield name, number, at, last
                     break
                 if own.endswith(";"):
-                    yield name, number, 0
+                    yield name, number, at, at
                     break
 
 

@@ -3,18 +3,24 @@
 
     tests/edits.py                       those of all crates, lowest first
     tests/edits.py grid_core text_lines  those of some crates
+    tests/edits.py --alone [NAME..]      each by a check of its own
     tests/edits.py --keep DIR            the copy is made in DIR, and is used again
     tests/edits.py --stand [NAME..]      only checks, in a second, that each edit can be applied, those of must-fail/ too
 
-A copy is made of the files that git tracks in crates/, of crates.txt and of HANDLES, as they are in the work tree. In the copy
-must-fail/ has the edits of edits.txt, a file each, in place of the gate's. There each crate is proved by `rt check`, since an edit
-of a crate that isn't proved would be refused whatever it does, and its edits are tried by `rt must-fail`. What rt says of each is
-printed when all of the crate were tried. Kit 13f keeps on the machine what it tried, tries again only what has changed, and tries
-as many edits side by side as RT_JOBS says; kit 13b tries all, one after the other.
+A copy is made of the files that git tracks in crates/, of crates.txt and of HANDLES, as they are in the work tree. There each crate
+is proved by `rt check`, since an edit of a crate that isn't proved would be refused whatever it does.
 
-The copy takes up to 5 GB, and is removed at the end unless --keep names it. A DIR that is kept saves the proofs of the next run,
-and one that was stopped goes on. The last line counts rt's verdicts: refused, NOT REFUSED (the crate is proved with the edit),
-BAD EDIT (it can't be applied, compiled or read), and NOT TRIED (rt came to no verdict, or the crate isn't proved).
+Then edits that change the body of one function are tried together, in a tree beside the copy: one `rt check --only` has one in each
+function, and an edit is refused where its function isn't proved, an error is in that function, and no function that it calls is
+unproved. Bodies are not read by other functions' proofs, so this is what a check of each alone would say. All edits of which such a
+check doesn't say that, and those that change a contract, a definition, a type, a constant or several functions, are tried alone: the
+copy gets them in must-fail/, and `rt must-fail` gives their verdicts. So each verdict but `refused` is rt's own of that edit.
+Kit 13f tries as many of these side by side as RT_JOBS says.
+
+The copy takes up to 5 GB, and is removed at the end unless --keep names it. A DIR that is kept saves the proofs of the next run and
+what was refused in this one, by the sums of the files that rt reads, so one that was stopped goes on. The last line counts the
+verdicts: refused, NOT REFUSED (the crate is proved with the edit), BAD EDIT (it can't be applied, compiled or read), and NOT TRIED
+(rt came to no verdict, or the crate isn't proved).
 
 In edits.txt an edit is its name, a line `file: PATH` in the crate, and pairs of lines `old: TEXT` and `new: TEXT`; more lines
 `file:` may follow with pairs of their own. An empty line ends it. Lines before a name that begin with # are comments. Each old
@@ -28,6 +34,8 @@ exit status:
 """
 import argparse
 import contextlib
+import fcntl
+import hashlib
 import os
 import re
 import shutil
@@ -35,13 +43,17 @@ import signal
 import subprocess
 import sys
 import tempfile
+import threading
 from collections import Counter
+from concurrent.futures import ThreadPoolExecutor
+
+import edit_rounds
 
 TOP = os.path.dirname(os.path.dirname(os.path.abspath(__file__)))
 COPIED = ("crates", "crates.txt", "HANDLES")
 EDITS = "edits.txt"
-# Is in each copy, so that no other folder is taken for one.
-MARK = ".copy-for-edits"
+# Is in each copy, so that no other folder is taken for one; and what was refused there.
+MARK, REFUSED = ".copy-for-edits", ".refused-edits"
 VERDICTS = ("refused", "NOT REFUSED", "BAD EDIT", "NOT TRIED")
 
 
@@ -90,30 +102,6 @@ def edits_of(paths):
     return {crate[1]: read_edits(crate[1]) for crate in map(found.fullmatch, paths) if crate}
 
 
-def fault_of(edit, folder):
-    """Why the edit can't be applied to a crate, by rt's rules, or None."""
-    path, old, texts, was = None, None, {}, {}
-    for line in edit.split("\n"):
-        kind, _, text = line.partition(":")
-        text = text[1:]
-        if kind == "file":
-            path = text.strip()
-            if not path.startswith(("src/", "specs/", "proofs/")) or os.path.normpath(path) != path or not os.path.isfile(f"{folder}/{path}"):
-                return f"there is no file {path} in src/, specs/ or proofs/"
-            if path not in texts:
-                with open(f"{folder}/{path}", encoding="utf-8") as file:
-                    texts[path] = was[path] = file.read()
-        elif kind == "old":
-            old = text
-        elif kind == "new":
-            if not path or not old:
-                return "a line `new:` comes before a line `file:` or `old:`"
-            if texts[path].count(old) != 1:
-                return f"{path} has this {texts[path].count(old)} times, and not once: {old}"
-            texts[path], old = texts[path].replace(old, text), None
-    return "it changes nothing" if texts == was else None
-
-
 def stand(names):
     """The exit status: whether each edit of these crates can be applied. Each that can't is printed."""
     order = crates_in_order()
@@ -127,7 +115,7 @@ def stand(names):
             if name.endswith(".edit"):
                 edits[f"must-fail/{name}"] = bytes_of(f"{gate}/{name}").decode()
         for name, text in edits.items():
-            why = fault_of(text, folder)
+            why = edit_rounds.applied(text, folder)[2]
             count, bad = count + 1, bad + (why is not None)
             if why:
                 print(f"crates/{crate}/{name}: {why}")
@@ -162,17 +150,16 @@ def bytes_of(path):
         return file.read()
 
 
-def renew(copy, paths, edits):
-    """Makes the copy what the tracked files are. What rt made there stays, and a file that hasn't changed isn't touched."""
+def renew(copy, paths):
+    """Makes the copy what the tracked files are, without edits. What rt made there stays, and a file that hasn't changed isn't touched."""
     texts = {path: bytes_of(os.path.join(TOP, path)) for path in paths if not re.match(f"crates/[^/]+/(must-fail/|{EDITS}$)", path)}
-    texts.update((f"crates/{crate}/must-fail/{name}.edit", text.encode()) for crate in edits for name, text in edits[crate].items())
     for folder, folders, names in os.walk(copy):
         inside = os.path.relpath(folder, copy)
         if re.fullmatch(r"crates/[^/]+", inside):
             folders[:] = [it for it in folders if it != "out"]
         for name in names:
             place = os.path.normpath(f"{inside}/{name}")
-            if place != MARK and place not in texts:
+            if place not in (MARK, REFUSED) and place not in texts:
                 os.remove(f"{folder}/{name}")
     for place, new in texts.items():
         old = os.path.join(copy, place)
@@ -183,11 +170,11 @@ def renew(copy, paths, edits):
 
 
 @contextlib.contextmanager
-def copied(keep, paths, edits):
+def copied(keep, paths):
     """The folder of the copy."""
     if not keep:
         with tempfile.TemporaryDirectory(prefix="knot-edits-") as copy:
-            renew(copy, paths, edits)
+            renew(copy, paths)
             yield copy
         return
     copy = os.path.realpath(keep)
@@ -198,46 +185,182 @@ def copied(keep, paths, edits):
     if os.path.isdir(copy) and os.listdir(copy) and not os.path.isfile(os.path.join(copy, MARK)):
         raise CallError(f"{keep} has other files in it: name an empty folder, or one that this script has made")
     os.makedirs(copy, exist_ok=True)
-    with open(os.path.join(copy, MARK), "w", encoding="utf-8"):
-        pass
-    renew(copy, paths, edits)
-    yield copy
+    with open(os.path.join(copy, MARK), "w", encoding="utf-8") as mark:
+        try:
+            fcntl.flock(mark, fcntl.LOCK_EX | fcntl.LOCK_NB)
+        except BlockingIOError:
+            raise CallError(f"another run uses {keep}") from None
+        renew(copy, paths)
+        yield copy
 
 
-@contextlib.contextmanager
-def started(words, folder):
-    """A run of rt whose output is read line by line. It ends with this script, however that ends."""
-    run = subprocess.Popen(words, cwd=folder, stdin=subprocess.DEVNULL, stdout=subprocess.PIPE, stderr=subprocess.STDOUT, text=True, errors="replace")
-    try:
-        yield run
-        run.wait()
-    finally:
-        if run.poll() is None:
-            run.terminate()
+class Runs:
+    """The runs of rt, which end with this script, however that ends."""
+
+    def __init__(self):
+        self.lock, self.going, self.is_over = threading.Lock(), set(), False
+
+    @contextlib.contextmanager
+    def started(self, words, folder):
+        """A run of rt whose output is read line by line."""
+        with self.lock:
+            if self.is_over:
+                raise CallError("it was stopped")
+            how = {"stdin": subprocess.DEVNULL, "stdout": subprocess.PIPE, "stderr": subprocess.STDOUT, "text": True, "errors": "replace"}
+            run = subprocess.Popen(words, cwd=folder, **how)
+            self.going.add(run)
+        try:
+            yield run
             run.wait()
-        run.stdout.close()
+            if self.is_over:
+                raise CallError("it was stopped")
+        finally:
+            if run.poll() is None:
+                run.terminate()
+                run.wait()
+            run.stdout.close()
+            self.going.discard(run)
+
+    def end(self):
+        with self.lock:
+            self.is_over = True
+            for run in self.going:
+                run.terminate()
 
 
-def is_proved(copy, crate):
-    """Whether the crate is proved; what rt says is printed where it isn't."""
-    with started(["rt", "check"], f"{copy}/crates/{crate}") as run:
-        said = run.stdout.read()
-    if run.returncode:
-        print(said, end="")
-    return run.returncode == 0
+class Kept:
+    """What was refused over this copy, each by a sum of the edit and of all that rt reads for it."""
+
+    def __init__(self, copy, version):
+        self.copy, self.version, self.lock, self.sums, self.said = copy, version, threading.Lock(), {}, {}
+        if os.path.isfile(f"{copy}/{REFUSED}"):
+            with open(f"{copy}/{REFUSED}", encoding="utf-8") as file:
+                self.said = {key: why for key, _, why in (line.rstrip("\n").partition(" ") for line in file)}
+
+    def sum_of(self, crate):
+        """A sum of the files of one crate."""
+        if crate not in self.sums:
+            found = hashlib.sha256()
+            for part in edit_rounds.PARTS:
+                for folder, folders, names in os.walk(f"{self.copy}/crates/{crate}/{part}"):
+                    folders.sort()
+                    for path in (f"{folder}/{name}" for name in sorted(names)):
+                        found.update(repr((os.path.relpath(path, self.copy), bytes_of(path))).encode())
+            self.sums[crate] = found.hexdigest()
+        return self.sums[crate]
+
+    def key(self, crate, edit):
+        with self.lock:
+            below = sorted(edit_rounds.crates_at_or_below(self.copy, crate).items())
+            return hashlib.sha256(repr((self.version, crate, edit, [(line, self.sum_of(name)) for name, line in below])).encode()).hexdigest()
+
+    def keep(self, crate, edit, why):
+        key = self.key(crate, edit)
+        with self.lock, open(f"{self.copy}/{REFUSED}", "a", encoding="utf-8") as file:
+            file.write(f"{key} {why}\n")
 
 
-def tried(copy, crate, edits):
-    """What rt says of each edit of the crate, as a verdict by its name, and whether rt is content. All that it says is printed."""
-    found = dict.fromkeys(edits, "NOT TRIED")
-    verdict = re.compile(rf"rt: (?:must-fail {re.escape(crate)}/|\S*/must-fail/)(\S+)\.edit: ({'|'.join(VERDICTS)})\b")
-    with started(["rt", "must-fail", crate], copy) as run:
-        for line in run.stdout:
-            print(line, end="", flush=True)
-            said = verdict.match(line)
-            if said and said[1] in found:
-                found[said[1]] = said[2]
-    return found, run.returncode == 0
+class Trial:
+    """How the edits of crates are tried over a copy."""
+
+    def __init__(self, copy, edits, runs, is_alone):
+        self.copy, self.edits, self.runs, self.is_alone, self.lock = copy, edits, runs, is_alone, threading.Lock()
+        with runs.started(["rt", "version"], copy) as run:
+            self.kept = Kept(copy, run.stdout.read())
+
+    def say(self, text):
+        with self.lock:
+            print(text, flush=True)
+
+    def take_over(self, crate):
+        """Gives the copy the libraries that rt built in the work tree, and what it kept of the crate there: rt itself looks whether they fit."""
+        with self.lock:
+            for name in edit_rounds.crates_at_or_below(self.copy, crate):
+                here, there = (f"{top}/crates/{name}/out" for top in (TOP, self.copy))
+                stamps = [bytes_of(f"{it}/rlib/stamp") if os.path.isfile(f"{it}/rlib/stamp") else b"" for it in (here, there)]
+                if stamps[0] and stamps[0] != stamps[1]:
+                    shutil.rmtree(f"{there}/rlib", ignore_errors=True)
+                    shutil.copytree(f"{here}/rlib", f"{there}/rlib", copy_function=edit_rounds.link_or_copy)
+                if name == crate and os.path.isdir(f"{here}/incremental") and not os.path.isdir(f"{there}/incremental"):
+                    shutil.copytree(f"{here}/incremental", f"{there}/incremental")
+
+    def refuse(self, found, crate, name, why):
+        found[name] = "refused"
+        self.kept.keep(crate, self.edits[crate][name], why)
+
+    def proved(self, crate):
+        """What rt says of the crate, or None where it isn't proved: then that is printed."""
+        with self.runs.started(["rt", "check"], f"{self.copy}/crates/{crate}") as run:
+            said = run.stdout.read()
+        if run.returncode:
+            self.say(said.rstrip("\n"))
+        return None if run.returncode else said.splitlines()
+
+    def together(self, crate, lines, found):
+        """Tries together those edits of the crate that are left and that one body has, and gives the number of checks that took."""
+        functions = re.findall(r"(?m)^fn (\S+): proved$", "\n".join(lines))
+        edits = {name: text for name, text in self.edits[crate].items() if found[name] != "refused"}
+        places = {name: edit_rounds.place_of(text, f"{self.copy}/crates/{crate}", crate, functions) for name, text in edits.items()}
+        places = {name: place for name, place in places.items() if place}
+        if not places:
+            return 0
+        checks = 0
+        with edit_rounds.tree_for(self.copy, crate) as folder:
+            def check(names):
+                nonlocal checks
+                checks += 1
+                edit_rounds.put_in_place(names, places, folder, f"{self.copy}/crates/{crate}")
+                words = [word for name in names for word in ("--only", places[name].function)]
+                with self.runs.started(["rt", "check", "--jobs", "1", *words], folder) as run:
+                    return run.stdout.read().splitlines()
+
+            for name, why in edit_rounds.tried_together(places, check):
+                self.refuse(found, crate, name, why)
+                self.say(f"{crate}/{name}: refused: {why[:200]}")
+        return checks
+
+    def alone(self, crate, found):
+        """Has rt try each edit of the crate that is left, and gives whether it is content. All that it says is printed."""
+        names = [name for name in self.edits[crate] if found[name] != "refused"]
+        folder = f"{self.copy}/crates/{crate}/must-fail"
+        shutil.rmtree(folder, ignore_errors=True)
+        os.makedirs(folder)
+        for name in names:
+            with open(f"{folder}/{name}.edit", "w", encoding="utf-8") as file:
+                file.write(self.edits[crate][name])
+        verdict = re.compile(rf"rt: (?:must-fail {re.escape(crate)}/|\S*/must-fail/)(\S+)\.edit: ({'|'.join(VERDICTS)})\b")
+        with self.runs.started(["rt", "must-fail", crate], self.copy) as run:
+            for line in run.stdout:
+                self.say(line.rstrip("\n"))
+                said = verdict.match(line)
+                if said and said[1] in names:
+                    found[said[1]] = said[2]
+                    if said[2] == "refused":
+                        self.refuse(found, crate, said[1], line.rstrip("\n"))
+        return run.returncode == 0
+
+    def crate(self, crate):
+        """A verdict for each edit of the crate, by name, and whether rt is content."""
+        self.say(f"{crate}: to be tried: {len(self.edits[crate])}")
+        found = dict.fromkeys(self.edits[crate], "NOT TRIED")
+        for name, text in self.edits[crate].items():
+            why = self.kept.said.get(self.kept.key(crate, text))
+            if why is not None:
+                found[name] = "refused"
+                self.say(f"{crate}/{name}: refused by an earlier run: {why[:200]}")
+        checks, together, is_content = 0, 0, True
+        if set(found.values()) != {"refused"}:
+            self.take_over(crate)
+            lines, earlier = self.proved(crate), Counter(found.values())["refused"]
+            if lines is None:
+                self.say(f"{crate}: it isn't proved, so none of its other edits was tried")
+                return found, False
+            checks = 0 if self.is_alone else self.together(crate, lines, found)
+            together = Counter(found.values())["refused"] - earlier
+            if set(found.values()) != {"refused"}:
+                is_content = self.alone(crate, found)
+        self.say(f"{crate}: {counted(found.values())}; {together} by {checks} checks of many")
+        return found, is_content
 
 
 def counted(verdicts):
@@ -245,19 +368,21 @@ def counted(verdicts):
     return ", ".join(f"{counts[verdict]} {verdict}" for verdict in VERDICTS)
 
 
-def try_all(copy, crates, edits):
+def try_all(copy, crates, edits, jobs, is_alone):
     """The exit status for the edits of these crates."""
-    all_found, is_content = [], True
-    for crate in crates:
-        print(f"{crate}: to be tried: {len(edits[crate])}", flush=True)
-        if is_proved(copy, crate):
-            found, is_well = tried(copy, crate, edits[crate])
-        else:
-            print(f"{crate}: it isn't proved, so none of its edits was tried", flush=True)
-            found, is_well = dict.fromkeys(edits[crate], "NOT TRIED"), False
-        all_found += found.values()
-        is_content = is_content and is_well
-        print(f"{crate}: {counted(found.values())}", flush=True)
+    runs, all_found, is_content, asked = Runs(), [], True, []
+    pool = ThreadPoolExecutor(jobs)
+    try:
+        trial = Trial(copy, edits, runs, is_alone)
+        asked = [pool.submit(trial.crate, crate) for crate in crates]
+        for found, is_well in (it.result() for it in asked):
+            all_found += found.values()
+            is_content = is_content and is_well
+    finally:
+        for it in asked:
+            it.cancel()
+        runs.end()
+        pool.shutdown()
     print(f"in all: {counted(all_found)}", flush=True)
     return 0 if is_content and set(all_found) <= {"refused"} else 1
 
@@ -267,9 +392,13 @@ def main():
     parser = argparse.ArgumentParser(description=about, epilog=epilog, formatter_class=argparse.RawDescriptionHelpFormatter)
     parser.add_argument("names", nargs="*", metavar="NAME", help="a crate as crates.txt names it; none: all that have edits")
     parser.add_argument("--keep", metavar="DIR", help="make the copy in DIR, or use the one that is there")
+    parser.add_argument("--alone", action="store_true", help="try each edit by a check of its own")
+    parser.add_argument("--jobs", metavar="N", type=int, default=1, help="work on N crates at a time, each of which takes one to three GB (1)")
     parser.add_argument("--stand", action="store_true", help="only check that each edit can be applied; needs neither rt nor git")
     asked = parser.parse_args()
     try:
+        if asked.jobs < 1:
+            raise CallError("--jobs takes a number from 1 on")
         if asked.stand:
             return stand(asked.names)
         for command, why in (("rt", "rt, the command of the Rattle kit"), ("git", "git")):
@@ -278,8 +407,8 @@ def main():
         paths = tracked()
         edits = edits_of(paths)
         crates = wanted(asked.names, edits)
-        with copied(asked.keep, paths, edits) as copy:
-            return try_all(copy, crates, edits)
+        with copied(asked.keep, paths) as copy:
+            return try_all(copy, crates, edits, asked.jobs, asked.alone)
     except CallError as error:
         print(f"edits.py: {error}", file=sys.stderr)
         return 2

@@ -1,5 +1,7 @@
 """Tests of tests/edits.py, with a stand-in for rt."""
+import fcntl
 import os
+import re
 import shutil
 import signal
 import stat
@@ -10,11 +12,15 @@ import time
 import unittest
 
 TREE = os.path.dirname(os.path.dirname(os.path.dirname(os.path.abspath(__file__))))
+sys.path.insert(0, os.path.join(TREE, "tests"))
+import edit_rounds  # noqa: E402
+
 SCRIPT = os.path.join(TREE, "tests", "edits.py")
 
-# An edit's line 'new: says: W' has the stand-in say what rt says of such an edit; the words are rt's own.
+# An edit's line 'new: says: W' has the stand-in say what rt says of such an edit; the words are rt's own. Where functions are checked alone, it says that
+# of each whose body has the word; a check without --only proves them all.
 STAND_IN = """#!{python}
-import os, sys, time
+import os, re, sys, time
 FOR = {{
     "refused": "refused, as it must be: src/lib.rt:3:1: error: `f.ensures`: not proved",
     "by a limit": "refused, as it must be (only by a limit of the prover, which gave no verdict): src/lib.rt:3:1: error",
@@ -22,29 +28,90 @@ FOR = {{
     "bad": "BAD EDIT: an 'old:' text is in src/lib.rt 0 times, and not once",
     "unsure": "NOT TRIED: its check ended with status 4, so nothing is known of it: run this again",
 }}
+WHY = {{
+    "refused": "note: src/lib.rt:{{}}:1: it is not proved that what the function ensures holds when it returns (`returns-then`)",
+    "answers": "./proofs/{{1}}/Answers.antt:10:5: error: `returns-clause`: as printed, the two types differ",
+    "names": "./proofs/{{1}}/Answers.antt:10:5: error: `returns-clause`: `kept` is not in scope\\n./proofs/{{1}}/Answers.antt:9:5: note: see there",
+    "scope": "./src/lib.rt:{{}}:1: error: `returns-clause`: `n` is not in scope",
+    "elsewhere": "./src/lib.rt:1:1: error: `other`: not proved",
+}}
 words, here = sys.argv[1:], os.getcwd()
+name = os.path.basename(here)
+if words == ["version"]:
+    sys.exit(print("the stand-in"))
 with open({calls!r}, "a") as calls:
-    calls.write(" ".join(words) + " in " + os.path.basename(here) + "\\n")
-if words == ["check"]:
-    if os.path.exists("src/unproved"):
-        print("./src/lib.rt:1:1: error: `f.ensures`: not proved")
+    calls.write(" ".join(words) + " in " + name + "\\n")
+if words[0] == "check":
+    with open("src/lib.rt") as file:
+        rows = file.read().split("\\n")
+    found, body = {{}}, None
+    for number, row in enumerate(rows, 1):
+        if re.match(" *(pub )?fn ", row):
+            body = found[f"{{name}}::" + re.search(r"fn (\\w+)", row)[1]] = [number, ""]
+        elif body and "says: " in row:
+            body[:] = number, row.split("says: ")[1]
+    if "--only" not in words:
+        if os.path.exists("src/unproved"):
+            print("./src/lib.rt:1:1: error: `f.ensures`: not proved")
+            sys.exit(1)
+        os.makedirs("out/incremental", exist_ok=True)
+        open("out/incremental/work", "a").close()
+        print(*[f"fn {{it}}: proved" for it in found], sep="\\n")
+        sys.exit(0)
+    asked = [it for it in words[words.index("--only") + 1 :: 2]]
+    if any(found[it][1] in ("bad", "nowhere") for it in asked):
+        print(*[f"./src/lib.rt:{{found[it][0]}}:5: error[unknown-name]: no such name" for it in asked if found[it][1] == "bad"], "error: rejected", sep="\\n")
         sys.exit(1)
-    os.makedirs("out", exist_ok=True)
-    open("out/proved", "a").close()
-    sys.exit(0)
+    for it in asked:
+        row, says = found[it]
+        behind = [f"{{name}}::{{other}}" for other in says.split()[1:]]
+        behind = [other for other in behind if other in asked and found[other][1].split()[:1] in (["refused"], ["calls"])]
+        if behind:
+            print(f"fn {{it}}: no proof: it calls `{{behind[0]}}`, which is not proved")
+        elif says in WHY or says.startswith("calls"):
+            print(WHY.get(says, WHY["refused"]).format(row, it.split("::")[1]))
+            print(f"fn {{it}}: " + ("not proved" if says in ("answers", "names") else "no proof: expected answers; `search` did not prove `returns-then`"))
+        else:
+            print(f"fn {{it}}: " + {{"unsure": "could not tell", "silent": "not proved"}}.get(says, "proved"))
+    print("only=1 proved=0")
+    sys.exit(1)
 (name,) = words[1:]
 status = 0
 for edit in sorted(os.listdir(f"crates/{{name}}/must-fail")):
     with open(f"crates/{{name}}/must-fail/{{edit}}") as file:
-        says = file.read().split("says: ")[1].strip()
+        says = file.read().split("says: ")[-1].strip()
+    says = {{"nowhere": "bad", "scope": "bad", "silent": "refused", "names": "refused", "elsewhere": "missed"}}.get(says, says)
     if says == "sleep":
         time.sleep(60)
-    if says == "elsewhere":
+    if says == "file":
         print(f"rt: {{here}}/crates/{{name}}/must-fail/{{edit}}: BAD EDIT: an edit stands right in must-fail/")
     elif says != "nothing":
         print(f"rt: must-fail {{name}}/{{edit}}: {{FOR[says]}}")
     status = status or says not in ("refused", "by a limit")
 sys.exit(status)
+"""
+CODE = """const LIMIT: u8 = 4;
+
+fn one() -> u8
+    ensures { result ≡ 1 }
+{
+    1
+}
+
+fn two() -> u8 {
+    2
+}
+
+impl Three {
+    fn three() -> u8 {
+        3
+    }
+}
+
+#[cycle(four)]
+fn four() -> u8 {
+    4
+}
 """
 
 
@@ -73,7 +140,8 @@ class EditsTest(unittest.TestCase):
             self.put(f"crates/{name}/src/lib.rt", "fn f() {}\n")
             self.put(f"crates/{name}/must-fail/gates_own.edit", edit("bad"))
         self.edits = {}
-        self.put("tests/edits.py", self.text(SCRIPT))
+        for path in ("tests/edits.py", "tests/edit_rounds.py", "bench/house_crates.py"):
+            self.put(path, self.text(TREE, path))
         self.git("init", "--quiet")
 
     def put(self, path, text):
@@ -122,7 +190,7 @@ class Verdicts(EditsTest):
         self.assertEqual(lines[-1], "in all: 2 refused, 0 NOT REFUSED, 0 BAD EDIT, 0 NOT TRIED")
 
     def test_each_verdict_is_counted(self):
-        for number, says in enumerate(("refused", "refused", "refused", "missed", "missed", "bad", "elsewhere", "unsure", "nothing")):
+        for number, says in enumerate(("refused", "refused", "refused", "missed", "missed", "bad", "file", "unsure", "nothing")):
             self.edit("middle", f"edit_{number}", says)
         status, lines, _ = self.run_it("middle")
         self.assertEqual(status, 1)
@@ -130,7 +198,7 @@ class Verdicts(EditsTest):
         self.assertIn("rt: must-fail middle/edit_3.edit: NOT REFUSED: the crate is still proved with this edit", lines)
 
     def test_any_verdict_but_refused_is_status_1(self):
-        for says in ("missed", "bad", "elsewhere", "unsure", "nothing"):
+        for says in ("missed", "bad", "file", "unsure", "nothing"):
             self.edit("low", "one", says)
             self.assertEqual(self.run_it()[0], 1, says)
 
@@ -143,6 +211,170 @@ class Verdicts(EditsTest):
         self.assertEqual(lines[-1], "in all: 1 refused, 0 NOT REFUSED, 0 BAD EDIT, 1 NOT TRIED")
         self.assertIn("./src/lib.rt:1:1: error: `f.ensures`: not proved", lines)
         self.assertNotIn("must-fail low in copy", self.calls_made())
+
+
+class Together(EditsTest):
+    """Edits of the bodies of CODE, by the word that the stand-in says of each."""
+
+    def setUp(self):
+        super().setUp()
+        self.put("crates/low/src/lib.rt", CODE)
+
+    def bodies(self, **edits):
+        """Gives the crate an edit of each name, of a function's body, by the function's number and the word."""
+        self.edits["low"] = {name: f"file: src/lib.rt\nold: {number}\nnew: says: {says}\n" for name, (number, says) in edits.items()}
+        for name, text in self.edits["low"].items():
+            number = text.split("old: ")[1][0]
+            self.edits["low"][name] = text.replace(f"old: {number}", "old: " + next(row for row in CODE.splitlines() if row.strip() == number))
+        self.write_edits("low")
+
+    def run_low(self, *words):
+        status, lines, errors = self.run_it("--keep", self.copy, *words)
+        self.assertEqual(errors, "")
+        return status, lines
+
+    def checks(self):
+        """The calls behind the crate's proof: of a check the functions, of must-fail the edits."""
+        calls = self.calls_made()
+        self.assertEqual(calls[0], "check in low")
+        return [re.sub(r"check --jobs 1 | in low|--only |low::", "", call) for call in calls[1:]]
+
+    def test_edits_of_different_functions_are_one_check(self):
+        self.bodies(a=(1, "refused"), b=(2, "refused"))
+        status, lines = self.run_low()
+        self.assertEqual(status, 0)
+        self.assertEqual(self.checks(), ["one two"])
+        for edit, row in (("a", 6), ("b", 10)):
+            why = f"note: src/lib.rt:{row}:1: it is not proved that what the function ensures holds when it returns (`returns-then`)"
+            self.assertIn(f"low/{edit}: refused: {why}", lines)
+        self.assertEqual(lines[-2:], ["low: 2 refused, 0 NOT REFUSED, 0 BAD EDIT, 0 NOT TRIED; 2 by 1 checks of many",
+                                      "in all: 2 refused, 0 NOT REFUSED, 0 BAD EDIT, 0 NOT TRIED"])
+
+    def test_edits_of_one_function_are_in_checks_of_their_own(self):
+        self.bodies(a=(1, "refused"), b=(1, "refused"), c=(2, "refused"))
+        self.assertEqual(self.run_low()[0], 0)
+        self.assertEqual(self.checks(), ["one two", "one"])
+
+    def test_an_error_in_a_proof_file_of_the_function_is_one_of_its_own(self):
+        self.bodies(a=(1, "answers"))
+        status, lines = self.run_low()
+        self.assertEqual((status, self.checks()), (0, ["one"]))
+        self.assertIn("low/a: refused: ./proofs/one/Answers.antt:10:5: error: `returns-clause`: as printed, the two types differ", lines)
+
+    def test_a_function_that_calls_one_that_is_not_proved_waits(self):
+        self.bodies(a=(1, "calls two"), b=(2, "refused"))
+        self.assertEqual(self.run_low()[0], 0)
+        self.assertEqual(self.checks(), ["one two", "one"])
+
+    def test_what_is_not_said_to_be_refused_is_tried_alone(self):
+        for says, verdict in (("missed", "NOT REFUSED"), ("unsure", "NOT TRIED"), ("scope", "BAD EDIT"), ("silent", "refused"), ("names", "refused"),
+                              ("elsewhere", "NOT REFUSED")):
+            self.bodies(a=(1, says), b=(2, "refused"))
+            status, lines = self.run_low()
+            self.assertEqual(status, int(verdict != "refused"))
+            self.assertEqual(self.checks(), ["one two", "must-fail low in copy"])
+            self.assertTrue(any(line.startswith(f"rt: must-fail low/a.edit: {verdict}") for line in lines), says)
+            self.assertFalse(any(line.startswith("rt: must-fail low/b") for line in lines))
+            os.unlink(self.calls)
+            shutil.rmtree(self.copy)
+
+    def test_code_that_can_not_be_read_is_tried_alone_and_the_others_once_more(self):
+        self.bodies(a=(1, "bad"), b=(2, "refused"))
+        status, lines = self.run_low()
+        self.assertEqual(lines[-1], "in all: 1 refused, 0 NOT REFUSED, 1 BAD EDIT, 0 NOT TRIED")
+        self.assertEqual((status, self.checks()), (1, ["one two", "two", "must-fail low in copy"]))
+
+    def test_where_no_row_is_named_each_half_is_tried(self):
+        self.put("crates/low/src/lib.rt", CODE.replace("#[cycle(four)]\n", ""))
+        self.bodies(a=(1, "refused"), b=(2, "nowhere"), c=(4, "refused"))
+        status, lines = self.run_low()
+        self.assertEqual(lines[-1], "in all: 2 refused, 0 NOT REFUSED, 1 BAD EDIT, 0 NOT TRIED")
+        self.assertEqual((status, self.checks()), (1, ["one two four", "one", "two four", "two", "four", "must-fail low in copy"]))
+
+    def test_what_is_not_one_body_is_tried_alone(self):
+        self.edits["low"] = {"limit": "file: src/lib.rt\nold: u8 = 4;\nnew: u8 = 5; // says: refused\n",
+                             "contract": "file: src/lib.rt\nold: result ≡ 1\nnew: says: refused\n",
+                             "two_bodies": "file: src/lib.rt\nold:     1\nnew:     11\nold:     2\nnew:     says: refused\n",
+                             "of_a_cycle": "file: src/lib.rt\nold:     4\nnew:     says: refused\n"}
+        self.write_edits("low")
+        self.assertEqual(self.run_low()[0], 0)
+        self.assertEqual(self.checks(), ["must-fail low in copy"])
+
+    def test_with_alone_each_is(self):
+        self.bodies(a=(1, "refused"), b=(2, "missed"))
+        status, lines = self.run_low("--alone")
+        self.assertEqual((status, self.checks()), (1, ["must-fail low in copy"]))
+        self.assertEqual(lines[-1], "in all: 1 refused, 1 NOT REFUSED, 0 BAD EDIT, 0 NOT TRIED")
+
+    def test_what_was_refused_is_kept_until_a_file_changes(self):
+        self.bodies(a=(1, "refused"), b=(2, "silent"))
+        self.run_low()
+        self.assertEqual(self.checks(), ["one two", "must-fail low in copy"])
+        os.unlink(self.calls)
+        status, lines = self.run_low()
+        self.assertEqual((status, self.calls_made()), (0, []))
+        self.assertTrue(any(line.startswith("low/a: refused by an earlier run: note: src/lib.rt:6:1: it is not proved") for line in lines))
+        self.bodies(a=(1, "refused"), b=(2, "missed"))
+        self.assertEqual(self.run_low()[0], 1)
+        self.assertEqual(self.checks(), ["two", "must-fail low in copy"])
+        os.unlink(self.calls)
+        self.put("crates/low/src/lib.rt", "// Changed.\n" + CODE)
+        self.assertEqual(self.run_low()[0], 1)
+        self.assertEqual(self.checks(), ["one two", "must-fail low in copy"])
+
+    def test_the_copy_and_the_work_tree_stay_as_they_are(self):
+        self.bodies(a=(1, "refused"))
+        self.put(".gitignore", "out/\n")
+        self.put("crates/low/out/rlib/stamp", "")
+        self.put("crates/low/out/rlib/low.rlib", "library")
+        self.put("crates/low/out/incremental/work", "kept")
+        self.assertEqual(self.run_low()[0], 0)
+        self.assertEqual(self.text(self.copy, "crates/low/src/lib.rt"), CODE)
+        self.assertEqual(self.text(self.copy, "crates/low/out/incremental/work"), "kept")
+        self.assertEqual(sorted(os.listdir(os.path.join(self.copy, "crates", "low", "out"))), ["incremental"])
+        self.assertEqual(self.text(self.top, "crates/low/src/lib.rt"), CODE)
+
+    def test_crates_side_by_side_have_the_same_verdicts(self):
+        self.bodies(a=(1, "refused"), b=(2, "missed"))
+        self.put("crates/high/src/lib.rt", CODE)
+        self.edits["high"] = self.edits["low"]
+        self.write_edits("high")
+        status, lines = self.run_low("--jobs", "2")
+        self.assertEqual((status, lines[-1]), (1, "in all: 2 refused, 2 NOT REFUSED, 0 BAD EDIT, 0 NOT TRIED"))
+        self.assertEqual(self.run_it("--jobs", "0"), (2, [], "edits.py: --jobs takes a number from 1 on\n"))
+
+
+class Places(unittest.TestCase):
+    FUNCTIONS = ["low::one", "low::two", "low::Three::three", "low::names::Type::own", "low::names::TypeFromOther::from", "low::names::TypeDisplay::fmt",
+                 "low::names::OtherDisplay::fmt", "low::more::free", "low::more::inner::free"]
+
+    def place(self, path, text, old):
+        with tempfile.TemporaryDirectory() as folder:
+            os.makedirs(os.path.join(folder, "src"))
+            with open(os.path.join(folder, path), "w", encoding="utf-8") as file:
+                file.write(text)
+            return edit_rounds.place_of(f"file: {path}\nold: {old}\nnew: changed\n", folder, "low", self.FUNCTIONS)
+
+    def test_a_body_has_its_file_rows_and_function(self):
+        self.assertEqual(self.place("src/lib.rt", CODE, "    1"), ("src/lib.rt", {6: "changed"}, 3, 7, "low::one"))
+        self.assertEqual(self.place("src/lib.rt", CODE, "        3"), ("src/lib.rt", {15: "changed"}, 14, 16, "low::Three::three"))
+
+    def test_methods_are_named_by_their_type_and_trait_and_others_by_their_module(self):
+        for head, name, function in (("impl<'a, T: Fn(u8) -> u8> Type<'a, T> {", "own", "low::names::Type::own"),
+                                     ("impl From<Other<u8>> for Type {", "from", "low::names::TypeFromOther::from"),
+                                     ("impl<T> std::fmt::Display for Type<T>\nwhere\n    T: Copy,\n{", "fmt", "low::names::TypeDisplay::fmt"),
+                                     ("impl Display for Unknown {", "fmt", None), ("impl Type {", "other", None), ("trait Type {", "own", None),
+                                     ("impl Display for &mut Type {", "fmt", None), ("impl Typ {", "own", None)):
+            place = self.place("src/more.rt", f"{head}\n    /// What it is.\n    fn {name}(&self) -> u8 {{\n        7\n    }}\n}}\n", "        7")
+            self.assertEqual(place and place.function, function, head)
+        place = self.place("src/more.rt", "fn free() -> u8 {\n    7\n}\n", "    7")
+        self.assertEqual(place.function, "low::more::free")
+
+    def test_what_has_no_body_of_its_own_has_no_place(self):
+        for text, old in ((CODE, "const LIMIT"), (CODE, "≡ 1"), (CODE, "u8 {"), (CODE, "    4"), (CODE, "}"), ("const fn one() -> u8 {\n    1\n}\n", "    1"),
+                          ("fn one() {\n    fn two() {\n        1\n    }\n}\n", "        1"), ("fn unknown() {\n    1\n}\n", "    1")):
+            self.assertIsNone(self.place("src/lib.rt", text, old), (text, old))
+        self.assertIsNone(self.place("src/lib.rt", "fn one() {\n    1;\n}\n", "    1;\nnew: }\nold: changed"))
 
 
 class Forms(EditsTest):
@@ -159,7 +391,7 @@ class Forms(EditsTest):
         two = "file: src/lib.rt\nold: fn f\nnew: fn g\nold: () {\nnew:\n"
         self.put("crates/low/edits.txt", f"# a line\n\n# another one\none\n{edit('refused')}\n\n# and one\ntwo\n{two}")
         self.run_it("--keep", self.copy)
-        self.assertEqual(self.kept_files()[4:6], ["crates/low/must-fail/one.edit", "crates/low/must-fail/two.edit"])
+        self.assertEqual(self.kept_files()[5:7], ["crates/low/must-fail/one.edit", "crates/low/must-fail/two.edit"])
         self.assertEqual(self.text(self.copy, "crates/low/must-fail/one.edit"), edit("refused"))
         self.assertEqual(self.text(self.copy, "crates/low/must-fail/two.edit"), two)
 
@@ -250,8 +482,8 @@ class Wanting(EditsTest):
 
 
 class Copies(EditsTest):
-    FILES = [".copy-for-edits", "HANDLES", "crates.txt", "crates/high/src/lib.rt", "crates/low/must-fail/one.edit", "crates/low/out/proved",
-             "crates/low/src/lib.rt", "crates/middle/src/lib.rt"]
+    FILES = [".copy-for-edits", ".refused-edits", "HANDLES", "crates.txt", "crates/high/src/lib.rt", "crates/low/must-fail/one.edit",
+             "crates/low/out/incremental/work", "crates/low/src/lib.rt", "crates/middle/src/lib.rt"]
 
     def test_it_has_the_tracked_files_with_each_edit_in_must_fail(self):
         self.edit("low", "one", "refused")
@@ -297,6 +529,13 @@ class Copies(EditsTest):
             self.assertEqual((status, lines), (2, []))
             self.assertTrue(errors.startswith(f"edits.py: {folder} {why}"), errors)
         self.assertEqual(sorted(os.listdir(self.commands)), ["git", "rt"])
+
+    def test_two_runs_do_not_share_a_copy(self):
+        self.edit("low", "one", "refused")
+        self.run_it("--keep", self.copy)
+        with open(os.path.join(self.copy, ".copy-for-edits"), encoding="utf-8") as mark:
+            fcntl.flock(mark, fcntl.LOCK_EX)
+            self.assertEqual(self.run_it("--keep", self.copy), (2, [], f"edits.py: another run uses {self.copy}\n"))
 
     def test_a_copy_that_is_not_kept_is_removed(self):
         self.edit("low", "one", "refused")

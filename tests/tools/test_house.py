@@ -64,7 +64,8 @@ fn eighth() {}
 class Functions(unittest.TestCase):
     def test_a_body_is_found_with_and_without_a_contract(self):
         self.assertEqual(list(house_crates.functions_of(CODE.splitlines())), [
-            ("first", 4, 5), ("second", 14, 2), ("third", 19, 2), ("fourth", 26, 2), ("sixth", 35, 0), ("seventh", 41, 0), ("eighth", 46, 0)])
+            ("first", 4, 6, 11), ("second", 14, 14, 16), ("third", 19, 22, 24), ("fourth", 26, 29, 31), ("sixth", 35, 37, 37), ("seventh", 41, 44, 44),
+            ("eighth", 46, 46, 46)])
 
 
 class Crates(unittest.TestCase):
