@@ -5,8 +5,9 @@
     python3 bench/apart.py --list FILE       then what is left by this list of quandles; it may stand several times
     python3 bench/apart.py --book FILE       keeps what is found there; called again, it goes on
     python3 bench/apart.py --table TABLE     another table
+    python3 bench/apart.py --only pairs      asks further lists of pairs of knots alone, or of `mirrors` or `reverses`
     python3 bench/apart.py --each            also names what is left at the end, a line each
-    python3 bench/apart.py --order           the blocks of the lists in the order of what they tell a millisecond, and no more
+    python3 bench/apart.py --order FILE      the blocks of a list in the order of what they tell a millisecond, and no more
     python3 bench/apart.py --processes 2     so many counts at once
 
 Two knots are told apart where rows differ for each turn of the second: as it is, mirrored, reversed, or both. The rows of a knot and of its
@@ -14,8 +15,9 @@ mirror image are compared, both at once. An entry that is too wide tells nothing
 asked of further lists. Their rows are counted by `knot numbers`, the program of KNOT, or that which is built.
 
 By --order that block comes next which tells most a millisecond of the processor of what those before it leave: of pairs of knots, knots and
-their mirror images, and knots and their reverses. The cost is the mean of `knot numbers` over some knots, less that of a quandle of one
-colour. An entry that is too wide counts here as one of its own.
+their mirror images, and knots and their reverses. The cost is the mean of `knot numbers` over twelve knots, less that for the unknot, which is
+nearly all for reading the list. An entry that is too wide counts here as one of its own. Blocks of more than 32 colours come last, as `seek`
+tries them. They are counted only for some two hundred things that the others leave, and not for symmetries of which the table knows nothing.
 """
 import argparse
 import collections
@@ -28,11 +30,12 @@ from concurrent.futures import ThreadPoolExecutor
 sys.path.insert(0, os.path.join(os.path.dirname(os.path.dirname(os.path.abspath(__file__))), "tools"))
 from lib.census_plan import blocks_of as plan_blocks
 from lib.table_book import Book
-from lib.table_further import labels_of, rows_by
+from lib.table_further import rows_by
 from knot_workbench import use
+from knot_workbench.diagrams import MAX_ORDER
 from knot_workbench.knot_rows import blocks_of, may_be_one, opposite, row_of, text_of
-from knot_workbench.knot_tables import BOTH, MIRRORED, REVERSED, SAME, TURNS, KnotTable, default_table, text_in
-from measure import PROGRAM
+from knot_workbench.knot_tables import BOTH, MIRRORED, REVERSED, SAME, TURNS, UNKNOT, KnotTable, default_table, text_in
+from measure import PROGRAM, processor_seconds
 
 # Two knots that aren't told apart, the second after a turn; or a knot and itself after one.
 Left = collections.namedtuple("Left", "one other turn")
@@ -110,36 +113,104 @@ def is_joined(known, one):
     return one.one == one.other and one.turn in known.knots[one.one].same
 
 
-def report(said, names, left, joined, seconds):
+def is_open(known, one):
+    """Whether what is left is a symmetry of which the table knows nothing."""
+    return one.one == one.other and one.turn not in (*known.knots[one.one].same, *known.knots[one.one].different)
+
+
+def own(some, *turns):
+    """The knots that some things left have with themselves after one of these turns."""
+    return {one.one for one in some if one.one == one.other and one.turn in turns}
+
+
+KINDS = ("pairs", "mirrors", "reverses")
+
+
+def kind_of(one):
+    """Of which of the kinds a thing left is."""
+    return KINDS[0 if one.one != one.other else 1 if one.turn.is_mirrored else 2]
+
+
+def pairs_in(left):
+    """How many pairs of two knots are left."""
+    return len({(one.one, one.other) for one in left if one.one != one.other})
+
+
+def report(said, names, left, joined, clock):
     """A line on what is left, and on what is joined."""
-    pairs = len({(one.one, one.other) for one in left if one.one != one.other})
     count, alone = classes_of(names, left)
-
-    def own(some, *turns):
-        return {one.one for one in some if one.one == one.other and one.turn in turns}
-
     mirrored, reverse = own(joined, MIRRORED, BOTH), own(joined, REVERSED)
-    print(f"{said}: {pairs} of {len(names) * (len(names) - 1) // 2} pairs aren't told apart, {count} classes, {alone} of one knot; neither joined to nor "
-          f"told from the mirror image {len(own(left, MIRRORED, BOTH) - mirrored)}, the reverse {len(own(left, REVERSED))} of {len(names)}; joined to it "
-          f"{len(mirrored)} and {len(reverse)}; {seconds:.0f} s", flush=True)
+    print(f"{said}: {pairs_in(left)} of {len(names) * (len(names) - 1) // 2} pairs aren't told apart, {count} classes, {alone} of one knot; neither joined "
+          f"to nor told from the mirror image {len(own(left, MIRRORED, BOTH) - mirrored)}, the reverse {len(own(left, REVERSED))} of {len(names)}; joined to "
+          f"it {len(mirrored)} and {len(reverse)}; {clock}", flush=True)
+
+
+class Clock:
+    """Seconds since it was made, as a text: by the clock, and of the processor."""
+
+    def __init__(self):
+        self.began, self.spent = time.perf_counter(), processor_seconds()
+
+    def __str__(self):
+        return f"{time.perf_counter() - self.began:.0f} s ({processor_seconds() - self.spent:.0f} of the processor)"
 
 
 # The order of blocks
 
-# The cost of a block is measured over one knot of so many.
-STRIDE = 60
+# The cost of a block is measured over so many knots by a list of so many copies, and that of reading it is the least of so many calls. Larger blocks
+# are asked of at most so many things.
+KNOTS, COPIES, CALLS, THINGS = 12, 20, 3, 200
+
+# A block of a list: what it is called, its text, and what it is.
+Named = collections.namedtuple("Named", "label text block")
+
+
+def named_blocks(listed):
+    """The blocks of a list, each called by the comment `# NAME: ..` above it, where there is one."""
+    labels, name = [], None
+    for line in listed.splitlines():
+        word, _, rest = line.partition(" ")
+        if word == "#":
+            name = rest.partition(": ")[0]
+        elif word == "quandle":
+            labels.append(name if rest.startswith("table") and name else rest)
+        elif word in ("weight", "shadow"):
+            labels[-1] += " with a cocycle"
+    return list(map(Named, labels, [block.text for block in plan_blocks(listed)[1]], blocks_of(listed)))
+
+
+def rows_of_blocks(known, names, some, each, book):
+    """The rows of knots and of their mirror images by some blocks: those of the table's list as they stand beside it, and others counted."""
+    standing = {block.text: place for place, block in enumerate(plan_blocks(known.listed)[1])}
+    others = "".join(one.text for one in some if one.text not in standing)
+    further = rows_by(known, names, others, each, book) if others else dict.fromkeys(names, ((), ()))
+
+    def row(there, counted):
+        entries = iter(counted)
+        return tuple(there[standing[one.text]] if one.text in standing else next(entries) for one in some)
+
+    return {name: tuple(map(row, known_rows(known, [name])[name], further[name])) for name in names}
 
 
 def cost_of(known, names, listed):
-    """The milliseconds of the processor that `knot numbers` takes of a knot by a list's text."""
-    def spent():
-        used = resource.getrusage(resource.RUSAGE_CHILDREN)
-        return used.ru_utime + used.ru_stime
+    """The milliseconds of the processor in which `knot numbers` counts for a knot by a block, which it has read."""
+    some = names[::max(1, len(names) // KNOTS)]
+    mean = sum(spent_on(known.knots[name].grid, listed * COPIES) for name in some) / len(some)
+    least = min(spent_on(UNKNOT, listed * COPIES) for _ in range(CALLS))
+    return max(1_000 * (mean - least) / COPIES, 0.001)
 
-    before = spent()
-    for name in names:
-        row_of(known.knots[name].grid, listed)
-    return 1_000 * (spent() - before) / len(names)
+
+def spent_on(grid, listed):
+    """Seconds of the processor that a call of `knot numbers` takes."""
+    before = processor_seconds_of_programs()
+    row_of(grid, listed)
+    return processor_seconds_of_programs() - before
+
+
+def processor_seconds_of_programs():
+    """Seconds of the processor that the programs that were called have taken."""
+    used = resource.getrusage(resource.RUSAGE_CHILDREN)
+    return used.ru_utime + used.ru_stime
 
 
 def marks_of(rows):
@@ -160,26 +231,39 @@ def untold_by(marks, chosen):
     return sum(count * (count - 1) // 2 for count in classes.values()), mirrored, reverse
 
 
-def say_order(known, lists, asked, book):
-    """Names the blocks of the table's list and of others, those first that tell most a millisecond."""
-    names, every = list(known.knots), {None: known.listed, **lists}
-    labels = [label for path, listed in every.items() for label in labels_of(listed, path)]
-    texts = [block.text for listed in every.values() for block in plan_blocks(listed)[1]]
-    rows = known_rows(known, names)
-    for listed in lists.values():
-        further = rows_by(known, names, listed, each_by(asked.processes), book)
-        rows = {name: tuple(one + other for one, other in zip(rows[name], further[name])) for name in names}
-    marks = marks_of(Rows([block for listed in every.values() for block in blocks_of(listed)], rows))
-    some = names[::STRIDE]
-    least = cost_of(known, some, "quandle trivial 1\n")
-    costs = [max(cost_of(known, some, text) - least, 0.01) for text in texts]
-    chosen, untold = [], untold_by(marks, [])
-    while len(chosen) < len(texts):
-        after = {block: untold_by(marks, [*chosen, block]) for block in range(len(texts)) if block not in chosen}
-        best = max(after, key=lambda block: ((sum(untold) - sum(after[block])) / costs[block], -costs[block]))
+def say_order_of(known, names, some, untold):
+    """Names blocks, those first that tell most a millisecond. `untold` says how many pairs, mirror images and reverses places of blocks leave."""
+    costs, chosen, left = [cost_of(known, names, one.text) for one in some], [], untold([])
+    while len(chosen) < len(some):
+        after = {place: untold([*chosen, place]) for place in range(len(some)) if place not in chosen}
+        best = max(after, key=lambda place: ((sum(left) - sum(after[place])) / costs[place], -costs[place]))
         chosen.append(best)
-        untold = after[best]
-        print(f"{labels[best]}: {costs[best]:.2f} ms; left are {untold[0]} pairs, {untold[1]} mirror images, {untold[2]} reverses", flush=True)
+        left = after[best]
+        print(f"{some[best].label}: {costs[best]:.3f} ms; left are {left[0]} pairs, {left[1]} mirror images, {left[2]} reverses", flush=True)
+
+
+def say_order(known, listed, each, book):
+    """Names the blocks of a list in their order, those of at most MAX_ORDER colours first."""
+    every, names = named_blocks(listed), list(known.knots)
+    small, larger = ([one for one in every if (one.block.order > MAX_ORDER) == is_larger] for is_larger in (False, True))
+    rows = Rows([one.block for one in small], rows_of_blocks(known, names, small, each, book))
+    marks = marks_of(rows)
+    say_order_of(known, names, small, lambda chosen: untold_by(marks, chosen))
+    every = [one for one in left_by(rows) if not is_joined(known, one) and not is_open(known, one)]
+    left = every[::len(every) // THINGS + 1]
+    due = [name for name in names if name in {name for one in left for name in one[:2]}]
+    if not larger or not due:
+        return
+    counted = rows_of_blocks(known, due, larger, each, book)
+    by_block = [Rows([one.block], {name: tuple(row[place:place + 1] for row in counted[name]) for name in due}) for place, one in enumerate(larger)]
+    stays = [[by.may_be(one) for one in left] for by in by_block]
+
+    def untold(chosen):
+        still = [one for place, one in enumerate(left) if all(stays[block][place] for block in chosen)]
+        return pairs_in(still), len(own(still, MIRRORED, BOTH)), len(own(still, REVERSED))
+
+    print(f"one in {len(every) // THINGS + 1} of what is left is asked of the others, of {len(due)} knots: {', '.join(map(str, untold([])))}", flush=True)
+    say_order_of(known, due, larger, untold)
 
 
 def known_rows(known, names):
@@ -201,25 +285,28 @@ def main():
     words.add_argument("--table", default=default_table())
     words.add_argument("--list", action="append", default=[], dest="lists", metavar="FILE")
     words.add_argument("--book", metavar="FILE")
+    words.add_argument("--only", choices=sorted(KINDS))
     words.add_argument("--each", action="store_true")
-    words.add_argument("--order", action="store_true")
+    words.add_argument("--order", metavar="FILE")
     words.add_argument("--processes", type=int, default=os.cpu_count() or 1)
     asked = words.parse_args()
     use(knot=os.environ.get("KNOT") or PROGRAM)
-    began = time.perf_counter()
+    clock, each = Clock(), each_by(asked.processes)
     known, book = KnotTable(asked.table), Book(asked.book) if asked.book else None
     if asked.order:
-        say_order(known, {path: text_in(path) for path in asked.lists}, asked, book)
+        say_order(known, text_in(asked.order), each, book)
+        print(clock)
         return
     names = list(known.knots)
     every = left_by(Rows(known.blocks, known_rows(known, names)))
     joined = [one for one in every if is_joined(known, one)]
     left = [one for one in every if not is_joined(known, one)]
-    report("the rows of the table", names, left, joined, time.perf_counter() - began)
+    report("the rows of the table", names, left, joined, clock)
+    left = [one for one in left if asked.only in (None, kind_of(one))]
     for path in asked.lists:
-        began = time.perf_counter()
-        left = left_by_list(known, left, path, each_by(asked.processes), book)
-        report(path, names, left, joined, time.perf_counter() - began)
+        clock = Clock()
+        left = left_by_list(known, left, path, each, book)
+        report(path, names, left, joined, clock)
     if asked.each:
         for one in left:
             print(f"{one.one}: {one.other}{one.turn.words}")

@@ -25,7 +25,6 @@ import csv
 import io
 import os
 import random
-import resource
 import statistics
 import subprocess
 import sys
@@ -33,7 +32,7 @@ import tempfile
 import time
 
 # seek knows where the modules of tools/ are.
-from measure import PROGRAM
+from measure import PROGRAM, processor_seconds
 from seek import SEEK, TOP, varied, walked
 
 sys.path.insert(0, os.path.join(TOP, "tools"))
@@ -160,11 +159,6 @@ class Clock:
 
     def __str__(self):
         return f"{self.seconds:.0f} s ({processor_seconds() - self.spent:.0f})"
-
-
-def processor_seconds():
-    """Seconds of the processor that this script and the programs that it called have taken."""
-    return sum(used.ru_utime + used.ru_stime for used in map(resource.getrusage, (resource.RUSAGE_SELF, resource.RUSAGE_CHILDREN)))
 
 
 def called(known, folder, name, given, words):

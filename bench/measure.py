@@ -1,6 +1,7 @@
 """What the benches measure of the built program: seconds, peak memory, what it wrote, instructions, and memory taken."""
 import argparse
 import os
+import resource
 import subprocess
 import sys
 import tempfile
@@ -25,6 +26,11 @@ def built(program=PROGRAM, build="./knot check < examples/check/unknot-shifted.t
     """Stops where there is no built program to measure."""
     if not os.access(program, os.X_OK):
         sys.exit(f"build the program first: {build}")
+
+
+def processor_seconds():
+    """Seconds of the processor that this script and the programs that it called have taken."""
+    return sum(used.ru_utime + used.ru_stime for used in map(resource.getrusage, (resource.RUSAGE_SELF, resource.RUSAGE_CHILDREN)))
 
 
 def put(path, text):

@@ -210,7 +210,7 @@ def symmetry(path, asked, work):
     for file, columns in [*((file, mirrors) for file in asked.mirrors), *((file, ALL) for file in asked.further)]:
         listed = text_in(file)
         found.by_rows(labels_of(listed, file), rows_by(found.known, found.open_names(columns), listed, work.each, found.book), file)
-    for seed, steps in ROUNDS[:asked.rounds]:
+    for seed, steps in rounds_to(asked.rounds):
         effort = Effort(f"{seed} {steps}", lambda *grids: walked(*grids, seed, steps))
         found.try_all(f"walks of {steps} steps", effort, asked.walk or ALL, work)
     found.put()
@@ -219,6 +219,11 @@ def symmetry(path, asked, work):
             work.differs(f"{found.target}: {row['name']}: {', '.join(f'{column} {row[column]}' for column, _ in SYMMETRIES)}")
     for kind, count in sorted(collections.Counter(map(kind_of, found.rows.values())).items()):
         calls.note(f"{path}: {kind}: {count}")
+
+
+def rounds_to(count):
+    """The first rounds of walks, each a seed and steps: those of identify.py, and behind them as many steps as in the last, with other seeds."""
+    return [ROUNDS[place] if place < len(ROUNDS) else (place + 1, ROUNDS[-1][1]) for place in range(count)]
 
 
 # What may show a symmetry: its name in the book, and what it finds of two grids, a certificate that the checker accepted or None.
@@ -246,7 +251,7 @@ class Symmetries:
 
     def __init__(self, path, asked):
         self.asked, self.target = asked, beside(path, ".symmetry.csv")
-        self.known = KnotTable(path, asked.list)
+        self.known = KnotTable(path, asked.list, is_partial=True)
         self.columns = ["name", *(column for column, _ in SYMMETRIES)]
         self.old = {row["name"]: row for _, row in records(self.target, text_in(self.target), self.columns)} if os.path.exists(self.target) else {}
         kept = {} if asked.all else self.old
@@ -355,7 +360,8 @@ def main():
     parser.add_argument("--certificates", metavar="FOLDER", help="keep the certificates of names and symmetries here")
     parser.add_argument("--further", action="append", default=[], metavar="FILE", help="a further list of quandles that may rule symmetries out")
     parser.add_argument("--mirrors", action="append", default=[], metavar="FILE", help="a further list that may rule mirror images out")
-    parser.add_argument("--rounds", type=int, default=len(ROUNDS), metavar="N", help="how many rounds of walks for symmetries (default: %(default)s)")
+    parser.add_argument("--rounds", type=int, default=len(ROUNDS), metavar="N",
+                        help="how many rounds of walks for symmetries, behind the fourth each as long and with another seed (default: %(default)s)")
     parser.add_argument("--walk", action="append", choices=ALL, help="walks for this symmetry alone; it may stand several times")
     parser.add_argument("--book", metavar="FILE", help="keep what was counted and walked for symmetries here")
     parser.add_argument("--list", metavar="FILE", help="the list of quandles by which is counted")

@@ -49,11 +49,12 @@ FOUR = (2, (1, 1))
 EIGHT = (2, (1, 1, 0))
 
 # What stands in the list: quandles of no cocycle, and then those with one, the fewest colours first. A number is the order of a dihedral
-# quandle with Mochizuki's shadow cocycle, a name one of the tables. Behind them stand quandles of more than 32 colours.
+# quandle with Mochizuki's shadow cocycle, a name one of the tables. Behind them stand quandles of more than 32 colours, those first that
+# tell most a millisecond.
 LIST = "list"
 PLAIN = ("dihedral 3", "tetrahedral", "alexander 5 2", "alexander 7 2", "alexander 11 3", "alexander 17 10")
 WEIGHED = (3, 5, 7, "F8", 11, "T5", 13, 17, 19, "M20a", "M20b", 23, "T7", "F27", "F27b", "H27", "A28", 29, "M30", 31)
-LAST = ("M42a", "M42c", "M56c", "T11", "M72", "PGammaL2_8_84_a", "AGammaL1_16_120_a")
+LAST = ("PGammaL2_8_84_a", "M42a", "AGammaL1_16_120_a", "M42c", "M56c", "T11", "M72")
 # What isn't among those by which rows of tables of knots are counted.
 NOT_IN_ROWS = ("F8", "F27", "F27b", "H27", "A28", *LAST)
 

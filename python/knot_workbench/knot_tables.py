@@ -193,15 +193,27 @@ def read_knots(path: str) -> Dict[str, TableKnot]:
 
 def read_symmetries(path: str) -> Dict[str, Tuple[Tuple[Turn, ...], Tuple[Turn, ...]]]:
     """The turns that leave a knot the same, and those that don't, by names; none where there is no such file. Raises TableError."""
+    found: Dict[str, Tuple[Tuple[Turn, ...], Tuple[Turn, ...]]] = {}
     if not os.path.exists(path):
-        return {}
-    found = {}
+        return found
     for line, row in records(path, text_in(path), ("name", *(column for column, _ in SYMMETRIES))):
         said = {turn: row[column].partition(" ")[0] for column, turn in SYMMETRIES}
         if not set(said.values()) <= {"equal", "different", "open"}:
             raise TableError(f"{path}:{line}: a symmetry is 'equal', 'different' or 'open'")
-        found[row["name"]] = tuple(tuple(turn for turn in said if said[turn] == word) for word in ("equal", "different"))
-    return found  # type: ignore[return-value]
+        same, different = (tuple(turn for turn in said if said[turn] == word) for word in ("equal", "different"))
+        if len(same) == 2 or len(same) == len(different) == 1:
+            raise TableError(f"{path}:{line}: two symmetries show the third, and here it is another one: the table was changed")
+        found[row["name"]] = same, different
+    return found
+
+
+def require_symmetries(path: str, knots: Iterable[str]) -> None:
+    """Raises TableError where there is a file of symmetries that lacks a knot of its table."""
+    symmetries = beside(path, ".symmetry.csv")
+    known = read_symmetries(symmetries)
+    missing = next((name for name in knots if name not in known), None) if os.path.exists(symmetries) else None
+    if missing:
+        raise TableError(f"{symmetries}: {missing} of {path} is missing: the table was cut or changed")
 
 
 def rows_text(of_list: str, knots: Iterable[Tuple[TableKnot, str, str]]) -> str:
@@ -237,14 +249,17 @@ def read_rows(path: str, table: str, knots: Dict[str, TableKnot], listed: str, l
 # Looking up
 
 class KnotTable:
-    """A table with its rows. Raises TableError where a file is missing, was cut or changed, or doesn't belong to the others."""
+    """A table with its rows. Raises TableError where a file is missing, was cut or changed, or doesn't belong to the others; symmetries may be
+    missing with `is_partial`."""
 
-    def __init__(self, path: Optional[str] = None, listed: Optional[str] = None) -> None:
+    def __init__(self, path: Optional[str] = None, listed: Optional[str] = None, *, is_partial: bool = False) -> None:
         self.path = path or default_table()
         list_path = listed or default_list()
         self.listed = text_in(list_path)
         self.blocks: List[Block] = blocks_of(self.listed)
         self.knots = read_knots(self.path)
+        if not is_partial:
+            require_symmetries(self.path, self.knots)
         self.rows = read_rows(beside(self.path, ".numbers.txt"), self.path, self.knots, self.listed, list_path)
         self.digest = digest("".join(f"{name} {texts}" for name, texts in self.rows.items()))
         self.by_row: Dict[str, List[Tuple[str, bool]]] = {}

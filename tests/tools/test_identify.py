@@ -15,11 +15,12 @@ from concurrent.futures import ThreadPoolExecutor
 
 import common
 import knot_invariants
+from knot_table import rounds_to
 from knot_workbench import Braid, Certificate, Grid, KnotTable, Turn, identify
 from knot_workbench.alexander import PLACE, PRIME, alexander_square
 from knot_workbench.diagrams import CORNERS, grid_of, grid_text
 from knot_workbench.faults import Illegal
-from knot_workbench.identifying import by_likelihood, rounds_of
+from knot_workbench.identifying import ROUNDS, by_likelihood, rounds_of
 from knot_workbench.knot_rows import blocks_of, may_be_one, of_sum, opposite, row_in, row_of, text_of
 from knot_workbench.knot_tables import read_knots
 from knot_workbench.moves import made
@@ -38,6 +39,12 @@ name,dt_name,crossings,arc_notation
 3_1,3a_1,3,"{{2,5},{3,1},{4,2},{5,3},{1,4}}"
 4_1,4a_1,4,"{{6,2},{4,1},{5,3},{2,4},{3,6},{1,5}}"
 5_1,5a_2,5,"{{2,7},{3,1},{4,2},{5,3},{6,4},{7,5},{1,6}}"
+"""
+SYMMETRY = """\
+name,mirror,reverse,mirror_reverse
+3_1,different by x,equal,different by x
+4_1,equal,equal,equal
+5_1,different by x,equal,different by x
 """
 LEFT = Grid((1, 2, 3, 4, 0), (4, 0, 1, 2, 3))
 EIGHT = Grid((5, 3, 4, 1, 2, 0), (1, 0, 2, 3, 5, 4))
@@ -213,7 +220,11 @@ class BadInput(IdentifyTest):
                  ("knots.csv", TABLE.replace("4_1,4a_1", "3_1,4a_1"), "'3_1' stands there twice"), ("knots.csv", "", "the table is empty"),
                  ("knots.numbers.txt", MADE[0][:200], "the file was cut or changed"),
                  ("knots.numbers.txt", MADE[0].replace("9/16", "9/17"), "the file was cut or changed"),
-                 ("list.txt", LIST + "quandle dihedral 7\n", "the rows were counted by another list"))
+                 ("list.txt", LIST + "quandle dihedral 7\n", "the rows were counted by another list"),
+                 ("knots.symmetry.csv", SYMMETRY.rpartition("5_1")[0], "5_1 of"), ("knots.symmetry.csv", SYMMETRY[:35], "3_1 of"),
+                 ("knots.symmetry.csv", SYMMETRY[:-10], "a symmetry is 'equal', 'different' or 'open'"), ("knots.symmetry.csv", "", "the table is empty"),
+                 ("knots.symmetry.csv", SYMMETRY.replace("4_1,equal,equal", "4_1,equal,different by x"), "two symmetries show the third"))
+        self.put("knots.symmetry.csv", SYMMETRY)
         for name, text, expected in cases:
             kept = self.read(name)
             self.put(name, text)
@@ -238,8 +249,9 @@ class BadInput(IdentifyTest):
         for words in ((), ("--processes", "0", "x"), ("--steps", "-1", "x")):
             self.assertEqual(self.identify(*words)[0], 2)
         os.mkdir(os.path.join(self.folder, "empty"))
-        given = self.put("given.csv", "name,notes\na,b\n")
+        given, cut = self.put("given.csv", "name,notes\na,b\n"), self.put("cut.csv", 'name,braid\na,"{1,1}"\nb,"{1,')
         for words, due in (((os.path.join(self.folder, "none.csv"),), "No such file"), ((given,), "say which has them by --diagram"),
+                           ((cut,), f"{cut}:3: unexpected end of data"),
                            ((os.path.join(self.folder, "empty"),), "it has no file NAME.txt"),
                            ((given, "--diagram", "notes", "--expect", "is"), "no column is called 'is'"),
                            (("--table", os.path.join(self.folder, "none.csv"), "--braid", "1"), "No such file"),
@@ -319,6 +331,17 @@ class GoingOn(IdentifyTest):
         self.assertIn("memory was wanting", row["said"])
         self.assertEqual(self.identify(*words)[:2], (0, "2 diagrams: 2 named\n"))
         self.assertEqual([row["answer"] for row in self.rows(self.out)], ["4_1", "4_1"])
+
+    def test_a_code_that_the_program_gave_no_grid_of_costs_one_row(self):
+        failing = self.put("failing/knot", f"#!/bin/sh\n[ $1 = grid ] && exit 7\nexec {STAND_IN} \"$@\"\n")
+        os.chmod(failing, 0o755)
+        for name, text in (("a", "[[1,4,2,5],[3,6,4,1],[5,2,6,3]]\n"), ("b", grid_text(EIGHT))):
+            self.put(f"given/{name}.txt", text)
+        words = (os.path.join(self.folder, "given"), "--out", self.out, "--knot", failing)
+        for _ in range(2):
+            self.assertEqual(self.identify(*words)[:2], (1, "2 diagrams: 1 failed, 1 named\n"))
+            self.assertEqual([row["answer"] for row in self.rows(self.out)], ["failed", "4_1"])
+            self.assertEqual(self.rows(self.out)[0]["said"], "knot grid: ended with status 7, memory was wanting")
 
     def test_open_rows_are_done_again_where_that_is_asked_for(self):
         path = self.put("open.csv", 'name,braid\na,"{1,-2,1,-2}"\n')
@@ -411,14 +434,17 @@ class KnotTableScript(IdentifyTest):
         self.assertEqual(self.make("symmetry", "--mirrors", mirrors, "--rounds", "0")[0], 0)
         self.assertEqual(self.counted() - calls, 2 * 2)  # 4_1 and 5_1, and the mirror image of each
 
+    def test_further_rounds_have_other_seeds(self):
+        self.assertEqual(rounds_to(2), list(ROUNDS[:2]))
+        self.assertEqual(rounds_to(6), [*ROUNDS, (5, 8_000_000), (6, 8_000_000)])
+
     def counted(self):
         """How many times the stand-ins were called to count or to walk."""
         with open(self.log, encoding="utf-8") as log:
             return sum(line.startswith(("numbers", "seek")) for line in log)
 
     def test_turns_that_make_one_knot_are_tried_once(self):
-        self.put("knots.symmetry.csv", "name,mirror,reverse,mirror_reverse\n3_1,different by x,equal,different by x\n4_1,equal,equal,equal\n"
-                 "5_1,open,open,equal\n")
+        self.put("knots.symmetry.csv", SYMMETRY.replace("5_1,different by x,equal,different by x", "5_1,open,open,equal"))
         known = KnotTable(self.table, self.list)
         self.assertEqual([[turn.words for turn in knot.turns()] for knot in known.knots.values()], [["", " mirrored"], [""], ["", " mirrored"]])
         self.assertEqual(known.parts_of("3_1 reversed"), (("3_1", Turn()),))
@@ -577,6 +603,23 @@ class WithThePrograms(IdentifyTest):
         # The torus knot of two strands and 61 crossings, whose smallest grid has 63 columns.
         rows = [[(edge - 1) % 122 + 1 for edge in (k, k + 62, k + 1, k + 61)] for k in range(1, 123, 2)]
         self.assertEqual(self.identify("-", text=str(rows)), (1, "refused\n", "identify.py: its drawing takes 63 columns, and a grid has at most 48\n"))
+
+    def test_bad_rows_by_the_table_of_the_tree_with_nothing_in_the_environment(self):
+        torus = [[(edge - 1) % 122 + 1 for edge in (k, k + 62, k + 1, k + 61)] for k in range(1, 123, 2)]
+        rows = (("none", ""), ("link", "[[4,1,3,2],[2,3,1,4]]"), ("large", torus), ("edge", "[[1,2,3,4]]"), ("good", "[[1,4,2,5],[3,6,4,1],[5,2,6,3]]"))
+        given = self.put("given.csv", "name,pd_notation\n" + "".join(f'{name},"{code}"\n' for name, code in rows) + "short\n")
+        words = (given, "--out", "out.csv", "--certificates", "kept", "--knot", os.path.abspath(BUILT), "--seek", os.path.abspath(BUILT_SEEK))
+        environment = {"PATH": f"{os.path.dirname(sys.executable)}:/usr/bin:/bin"}
+        for said in ("", "again"):
+            done = subprocess.run([os.path.join(common.TOOLS, "identify.py"), *words], env=environment, cwd=self.folder, capture_output=True, text=True,
+                                  check=False)
+            self.assertEqual((done.returncode, done.stdout, done.stderr), (1, "6 diagrams: 1 links, 1 named, 4 refused\n", ""), said)
+            self.assertEqual([(row["name"], row["answer"], row["said"]) for row in self.rows(os.path.join(self.folder, "out.csv"))],
+                             [("none", "refused", "there is no diagram: the entry is empty"), ("link", "link of 2 components", ""),
+                              ("large", "refused", "its drawing takes 63 columns, and a grid has at most 48"),
+                              ("edge", "refused", "the edge 1 doesn't stand exactly twice"), ("good", "3_1", ""),
+                              ("short", "refused", "the row has 1 fields, and the header 2")])
+        self.assertEqual(os.listdir(os.path.join(self.folder, "kept")), ["good.txt"])
 
     def test_a_small_trial(self):
         words = ("--disguised", "9", "--published", "6", "--errors", "2", "--rows", "0", "--timed", "0", "--most", "7", "--", "--processes", "2")

@@ -106,6 +106,17 @@ class DrawnTest(TableTest):
             self.assertEqual((status, out, self.files()), (2, "", []))
             self.assertEqual(errors, f"from_table.py: {reason}\n")
 
+    def test_a_program_that_gives_no_answer_costs_one_row(self):
+        path = self.table(f'name,pd\nk,"{PD[0]}"\n')
+        failing = os.path.join(self.folder, "failing")
+        for ending, reason in (("exit 7", "ended with status 7, memory was wanting"), ("kill -9 $$", "ended by signal 9")):
+            with open(failing, "w", encoding="utf-8") as out:
+                out.write(f"#!/bin/sh\n{ending}\n")
+            os.chmod(failing, 0o755)
+            status, out, errors = self.call(path, self.out, "--diagram", "pd", "--knot", failing)
+            self.assertEqual((status, out), (1, f"1 rows: 0 diagrams in {self.out}, 1 couldn't be made\n"))
+            self.assertEqual(errors, f"{path}:2: k: knot grid: {reason}\n")
+
 
 KNOT_BEFORE = os.environ.get("KNOT")
 

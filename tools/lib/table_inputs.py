@@ -6,6 +6,7 @@ import re
 import unicodedata
 
 from knot_workbench.diagrams import Lines, grid_of, read_diagram
+from knot_workbench.faults import Failed
 from knot_workbench.identifying import components_of
 from lib.calls import note
 from lib.table_entries import Conventions, EntryError, diagram_of
@@ -134,7 +135,7 @@ def items_of(table, wanted, options, faults):
             check_name(name, lines)
             lines[name] = line
             items.append(item_of(table, fields, line, options, faults))
-        except EntryError as error:
+        except (EntryError, Failed) as error:
             faults.add(table.path, line, name, error)
             items.append(None)
             lines.setdefault(name, line)
