@@ -3,7 +3,7 @@ from itertools import combinations
 
 from .answers import Answer
 from .codes import component_count, linking_numbers
-from .diagrams import colourings, is_up, rows_of, size_of
+from .diagrams import bottoms, colourings, is_up, rows_of, size_of
 from .lines import DONE, MAX_CANDIDATES
 from .weights import choices, counts_by_weight
 
@@ -19,17 +19,18 @@ def settled(rows, columns):
         known |= more
 
 
-def seed_count(grid):
-    """How many seeds the program finds: the least number, up to four, and else those among the columns from the left."""
+def seeds_of(grid):
+    """As many seeds as the program finds: the least number, up to four, and else those among the columns from the left."""
     rows, size = rows_of(grid), size_of(grid)
     for count in range(1, 5):
-        if any(len(settled(rows, columns)) == size for columns in combinations(range(size), count)):
-            return count
+        for columns in combinations(range(size), count):
+            if len(settled(rows, columns)) == size:
+                return columns
     seeds = []
     for column in range(size):
         if column not in settled(rows, seeds):
             seeds.append(column)
-    return len(seeds)
+    return seeds
 
 
 # Many texts say the same, and what they say may take seconds.
@@ -49,9 +50,15 @@ def kept(make):
     return numbers
 
 
+# A sweep that begins with more lists than this would take much memory.
+MOST_BEGUN = 300_000
+
+
 @kept
 def numbers_of(grid, quandle, cocycle):
-    """How many colourings a diagram has by a quandle; by a cocycle, how many of each weight."""
+    """How many colourings a diagram has by a quandle; by a cocycle, how many of each weight. They are listed, or made one by one from seeds."""
+    if quandle.order ** bottoms(grid) > MOST_BEGUN:
+        return numbers_from(grid, quandle, cocycle, seeds_of(grid))
     found = colourings(grid, quandle)
     return counts_by_weight(grid, quandle, *cocycle, found) if cocycle else [len(found)]
 
@@ -162,7 +169,7 @@ def cause_of_linking(first, second, said):
 
 
 def answer_numbers(_options, grid, blocks):
-    text, seeds = "", seed_count(grid)
+    text, seeds = "", len(seeds_of(grid))
     for quandle, cocycle in blocks:
         text += f"quandle {quandle.printed}"
         if quandle.order ** choices(cocycle, seeds) > MAX_CANDIDATES:
