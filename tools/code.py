@@ -16,7 +16,7 @@ DT     KnotInfo and KnotTheory: [4,6,2], DT[4,6,2], DTCode[{6,8},{2,4}] with a l
 Gauss  KnotInfo, KnotTheory and Regina: {-1,2,-3,1,-2,3}, where a negative number is a passage under; a list for each component of a link
        Sage: [[[-1,2,-3,1,-2,3]],[1,1,1]], and O1+U2+O3+U1+O2+U3+, where the crossings have signs
 
-What a list without a word is follows from its numbers, or --as says it. The signs of a DT code mean the same to KnotInfo and SnapPy except
+If no word says what a list is, its numbers show it, or --as says it. The signs of a DT code mean the same to KnotInfo and SnapPy except
 for the mirror image, which neither decides: a DT code, and a Gauss code without signs of crossings, are codes of the mirror image too.
 SnapPy's flips after a DT code (.001, or a list of 0 and 1) would decide it, and are not read.
 """

@@ -5,7 +5,7 @@ Jones polynomial.
     tools/invariants.py [INPUT]
 
 INPUT is a file with one diagram, a grid or a braid, as ./knot reads it, or standard input if none is given. They are for comparison with
-tables: nothing here is proved, and equal ones show nothing. For a diagram with more than 16 columns side by side the Jones polynomial isn't
+tables: nothing here is proved, and equal invariants show nothing. For a diagram with more than 16 columns side by side the Jones polynomial isn't
 computed; ./knot simplify may make it smaller. The Alexander polynomial begins at its constant, up to a power of t and its sign.
 """
 import argparse

@@ -180,13 +180,13 @@ def knot_page():
     text = head("knot", 1, "knot and seek")
     text += f".SH NAME\nknot \\- decides whether knots and links are the same, with evidence\n.SH SYNOPSIS\n\\fBknot\\fR {escaped(usage)}\n"
     text += f".SH DESCRIPTION\n{inline(about)} The input of a job comes from standard input.\n" + roff(section(document("docs", "GUIDE.md"), "Grids"))
-    text += ".PP\nA diagram is a grid, or a braid word that stands for its closure: its number of strands and its letters, as\n"
-    text += "\n".join(block(["braid 2 1 1 1"])) + "\n.PP\nAll texts stand in\n.BR knot\\-formats (5).\n"
+    text += ".PP\nA diagram is a grid, or a braid word, which means its closure: the number of strands and the letters, as\n"
+    text += "\n".join(block(["braid 2 1 1 1"])) + "\n.PP\nAll texts are described in\n.BR knot\\-formats (5).\n"
     text += ".SH JOBS\n" + roff(table_of(readme, "job"))
     text += ".SH OPTIONS\n" + roff(table_of(section(document("docs", "FORMATS.md"), "The command line"), "option"))
     text += ".SH EXIT STATUS\n" + roff(table_of(readme, "status"))
     text += ".SH EXAMPLES\n.PP\nIs the evidence in a file right?\n" + "\n".join(block(["knot check < certificate.txt"]))
-    text += "\n.PP\nSearch two diagrams in a file, and put the answer behind them:\n"
+    text += "\n.PP\nCompare the two diagrams in a file, and check the answer:\n"
     text += "\n".join(block(["knot decide < problem.txt > verdict.txt", "cat problem.txt verdict.txt | knot check"])) + "\n"
     return text + ".SH SEE ALSO\n.BR seek (1),\n.BR knot\\-formats (5)\n"
 

@@ -9,8 +9,8 @@ INPUT is a file with one diagram, a grid or a braid, as ./knot reads it, or stan
 grid for a grid, and a braid for a braid.
 
 The mirror image of a grid of n rows has the marks of row r in row n − 1 − r: the picture turned upside down, in which columns pass over
-rows as before and each crossing has the other sign. The mirror image of a braid has all letters negated. Of a grid run through backwards
-the Xs and the Os have changed places; of a braid the word is read from its end. Then each crossing keeps its sign.
+rows as before and each crossing has the other sign. The mirror image of a braid has all letters negated. In the reverse of a grid
+the Xs and the Os have changed places; the reverse of a braid has its letters in the opposite order. Each crossing keeps its sign.
 
     (cat diagram.txt; tools/turn.py --mirror diagram.txt) | ./knot decide
 """

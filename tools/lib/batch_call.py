@@ -48,7 +48,7 @@ examples:
 
 exit status:
   0  every problem has an answer, and every certificate was accepted
-  1  as 0, but some ended as unknown; with --part that is 0 too
+  1  as 0, but some problems ended as unknown; with --part the status is 0 then too
   2  an argument is wrong, a folder or a file of stages can't be read, or a program doesn't run; nothing was done
   3  a problem has no answer, can't be read or was refused, a certificate was not accepted, or a file or standard output
      can't be written; each is named on standard error

@@ -48,7 +48,7 @@ examples:
 exit status:
   0  each two classes are distinguished, and every certificate was accepted
   1  as 0, but some pairs of classes are undecided
-  2  the words are no call, or a folder, the plan or a program can't be used; nothing was done
+  2  the command line is invalid, or a folder, the plan or a program can't be used; nothing was done
   3  a diagram can't be read, a question has no answer, or a certificate was not accepted; each is named on standard error
   70  the script itself failed, with a traceback on standard error
   128 + N  stopped by signal N; called again, it goes on

@@ -33,7 +33,7 @@ An answer is
   unknot
   none of the table   its numbers of colourings differ from those of the unknot, of each knot of the table, and of each such sum
   open                no walk joined it to a candidate; those that its numbers leave are in the column `said`
-  link of 2 components    it isn't looked up
+  link of 2 components    links aren't looked up
   refused             there is no diagram; `said` has the reason
   failed              a program gave no answer
 Each name has a certificate, moves that lead to the table's diagram, which `knot check` accepted; --certificates keeps them.

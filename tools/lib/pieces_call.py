@@ -34,11 +34,11 @@ examples:
   tools/pieces.py again pairs > certificates.txt
 
 exit status:
-  0  all was done; of left, no piece is left
-  1  of left, some are
+  0  all was done; by `left`: no piece is left
+  1  by `left`: some pieces are left
   2  an argument is wrong, a table or a run is at fault, or a program or a file is not the one that `cut` recorded
-  3  of run, a piece has no answer; of join, again and alike, one is missing or at fault; of check, an answer made anew is another one, or
-     a certificate is not accepted; a file or standard output can't be read or written. Each is named on standard error
+  3  by `run`: a piece has no answer; by `join`, `again` and `alike`: an answer is missing or at fault; by `check`: an answer made anew is
+     different, or a certificate is not accepted; by all: a file or standard output can't be read or written. Each is named on standard error
   128 + N  stopped by signal N; called again, it goes on
 """
 

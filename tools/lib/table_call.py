@@ -15,7 +15,7 @@ as {3,{1,1,-2,1,-2}}, in a column of their own, or as few as the letters need; o
 [[5,2],[1,3],...]; or a PD code as PD[X[1,5,2,4],...] or [[1,5,2,4],...]; or a DT code as {4,6,2} or {{4},{2}}. The title of the
 column, the first word of an entry or its brackets show which of these it is.
 
-`knot grid` draws a PD code; its rows are counterclockwise, from the edge on which the strand below comes. A DT code is made into a PD
+`knot grid` draws a PD code; its rows are counterclockwise, from the edge on which the lower strand enters. A DT code is made into a PD
 code, and drawn; the mirror image has the same DT code. Each file says how its diagram was made. Gauss codes aren't read: a column is
 refused whose title says that it has them, and so are lists that are hardly words (each number once with either sign, or 2, 4 and so
 on, each once, if nothing says what they are). A word that leaves letters out has a split closure, and gets a warning.
@@ -37,7 +37,7 @@ examples:
 exit status:
   0  all that was asked for is written
   1  some entries can't be used, or some files already exist with another content; each is named on standard error
-  2  the words are no call, or the table or its column can't be read, or `knot grid` can't be run; nothing is written
+  2  the command line is invalid, or the table or its column can't be read, or `knot grid` can't be run; nothing is written
   3  a file or standard output can't be written; the files before it were written
 """
 
@@ -56,7 +56,7 @@ def parser():
     asked.add_argument("--all-pairs", action="store_true", help="a problem for each two rows")
     asked.add_argument("--neighbours", action="store_true", help="a problem for each row and the next one")
     words.add_argument("--only", action="append", metavar="NAMES",
-                       help="only the rows of these names: one whole name, blanks and all, or names parted by blanks, or @FILE with one name "
+                       help="only the rows of these names: one whole name, blanks and all, or names separated by blanks, or @FILE with one name "
                             "a line; it may be given again")
     words.add_argument("--quandles", metavar="FILE", help="append this file's lines to each input")
     words.add_argument("--as", dest="as_kind", choices=("braid", "dt", "pd"),

@@ -35,14 +35,14 @@ with a column of codes or braid words, as identify.py reads it; or a file NAME.t
                      if one was found, a grid, how many rows it has, its symmetry type, what its mirror image is, and the numbers of its
                      classes in the certificate (certified)
   rows.csv           a line for each row: its class, how the class is turned to be this knot, its grid, and its certificate and number there
-  certificate-1.txt  a certificate of version 4 with all of this, on which knot check rules; more of them if one would be too large
+  certificate-1.txt  a certificate of version 4 with all of this, which knot check checks; more of them if one would be too large
   page.html          the classes with pictures, to be sorted and searched
   work/              what is known so far: called again, it goes on
 
 exit status:
   0  all rows are sorted, and all classes and symmetries are decided
   1  some pair of classes, or a symmetry, is left open
-  2  the words are no call, or a table, the folder or a program can't be used
+  2  the command line is invalid, or a table, the folder or a program can't be used
   3  rows are missing: each is named, with the reason; or a file or standard output can't be written
   128 + N  stopped by signal N; called again, it goes on
 """
