@@ -26,6 +26,7 @@ mod BeginSound
 mod OneAfter
 mod Opened
 mod Standing
+mod Passing
 mod AfterSettling
 mod LaterEntries
 mod OncePerRun

@@ -76,6 +76,11 @@ by_brief b key bs ws is wide = by (lookup (same_brief b) bs) refl
     by None found = sym (not_first (same_key key) (map whole_pair bs) ws (here ∙ found) ∙ not_wide b key ws is wide)
     by (Some known) found = sym (found_first (same_key key) (map whole_pair bs) ws known (here ∙ found))
 
+-- a brief key that is found under itself
+pub by_place : (brief : BriefKey) (key : Packed) (known : Known) (bs : List (BriefKey × Known)) (ws : List (Packed × Known))
+    → lookup (same_brief brief) bs ≡ Some known → whole_key brief ≡ key → AreWide ws → lookup (same_key key) (pairs bs ws) ≡ Some known
+by_place brief key known bs ws found is wide = sym (by_brief brief key bs ws is wide) ∙ found
+
 pub by_whole : (key : Packed) (bs : List (BriefKey × Known)) (ws : List (Packed × Known)) → IsWide key
     → lookup (same_key key) ws ≡ lookup (same_key key) (pairs bs ws)
 by_whole key bs ws wide = sym (not_first (same_key key) (map whole_pair bs) ws (not_brief key bs wide))

@@ -1,7 +1,6 @@
 -- The entries in little memory; only private clauses and proofs cite this file.
 use Rattle.std.specs.Prelude.{◌≡◌, ◌<◌, ◌≤◌, ◌^◌, ℕ, List, Bool, nat_le}
 use Rattle.grid_core.specs.Diagram.{Diagram, IsGrid, size}
-use Rattle.grid_keys.specs.declared.brief.BriefKey.{BriefKey}
 use Rattle.grid_keys.specs.declared.key.Packed.{Packed}
 use Rattle.grid_keys.specs.declared.key.TheConstants.{WORD_COLUMNS}
 use Rattle.grid_keys.specs.Brief.{whole_key}

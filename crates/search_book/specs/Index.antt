@@ -33,3 +33,9 @@ pub record IsIndexOf (keys : List Packed) (sides : List Side) (index : Indexed) 
   pub own_keys : All (λ (p : Packed × Known). slice_get keys p.1.id ≡ Some p.0) index.paired
   -- and its side
   pub own_sides : All (λ (p : Packed × Known). slice_get sides p.1.id ≡ Some p.1.side) index.paired
+
+-- an entry of this side has the key
+pub record IsPassedOver (entries : List Entry) (side : Side) (key : Packed) : Type 0 where
+  pub known : Known
+  pub is : IsKnown entries key known
+  pub of_side : known.side ≡ side

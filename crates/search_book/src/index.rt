@@ -63,6 +63,14 @@ impl Index {
         }
     }
 
+    /// What is known of a key, if it stands in the map at this place, which is the id of its entry where all keys have brief forms and no id
+    /// has spilled. The place may be any number.
+    pub fn get_at(&self, place: u32, key: &Packed) -> Option<Known>
+        ensures { IfSome result (λ known. lookup (same_key key.now) self.now.paired ≡ Some known) }
+    {
+        self.by_key.get_at(place as usize, key)
+    }
+
     /// What is known of a key, by the entries whose index this is.
     pub fn find(&self, entries: &EntryList, key: &Packed) -> Option<Known>
         requires { IsIndexOf (keys entries.now.entries) (sides entries.now.entries) self.now }

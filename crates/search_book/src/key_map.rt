@@ -1,6 +1,7 @@
 //! What is known of keys, by key.
-ghost use Rattle.std.specs.Prelude.{◌≡◌, ◌++◌, ◌∷◌, [], IfOk, true, false, None, IsPermutation};
+ghost use Rattle.std.specs.Prelude.{◌≡◌, ◌++◌, ◌∷◌, [], IfOk, IfSome, true, false, Some, None, IsPermutation};
 ghost use Rattle.std.specs.Map.{lookup};
+ghost use Rattle.grid_keys.specs.Brief.{whole_key};
 ghost use Rattle.grid_keys.specs.Key.{same_key};
 
 use crate::problem::Side;
@@ -63,6 +64,23 @@ impl KeyMap {
         }
     }
 
+    /// What is known of a key, if it stands at this place among the brief keys: they are in the order in which they were added. The place may
+    /// be any number.
+    pub fn get_at(&self, place: usize, key: &Packed) -> Option<Known>
+        ensures { IfSome result (λ known. lookup (same_key key.now) self.now ≡ Some known) }
+    {
+        match self.brief.get_index(place) {
+            Some((stored, known)) => {
+                if is_form_of(*stored, key) {
+                    Some(*known)
+                } else {
+                    None
+                }
+            }
+            None => None,
+        }
+    }
+
     /// Adds a key that isn't there, and answers true; false where memory was refused.
     pub fn insert(&mut self, key: Packed, known: Known) -> bool
         requires { lookup (same_key key) self.old ≡ None }
@@ -80,4 +98,11 @@ impl KeyMap {
             },
         }
     }
+}
+
+/// Whether this is the brief form of a key.
+fn is_form_of(brief: BriefKey, key: &Packed) -> bool
+    ensures { result ≡ true → whole_key brief ≡ key.now }
+{
+    BriefKey::of(key) == Some(brief)
 }

@@ -22,13 +22,13 @@ settle_holds s t worker id offers Late is = inl is.1
 settle_holds s t worker id offers (Stranger asked kept) is = inl is.unchanged
 
 -- and the book stays one of its problem
-pub claim_keeps_problem : (s t : State) (worker : ℕ) (answer : Answer) → AnswersClaim s worker answer t → t.problem ≡ s.problem
-claim_keeps_problem s t worker (Work ticket) is = problem_after s t (Claim worker) (ticket.id, is.0)
-claim_keeps_problem s t worker Later is = ap (λ (u : State). u.problem) is.1
-claim_keeps_problem s t worker (Over end) is = ap (λ (u : State). u.problem) is.1
+pub claim_stays : (s t : State) (worker : ℕ) (answer : Answer) → AnswersClaim s worker answer t → t.problem ≡ s.problem
+claim_stays s t worker (Work ticket) is = problem_after s t (Claim worker) (ticket.id, is.0)
+claim_stays s t worker Later is = ap (λ (u : State). u.problem) is.1
+claim_stays s t worker (Over end) is = ap (λ (u : State). u.problem) is.1
 
-pub settle_keeps_problem : (s t : State) (worker id : ℕ) (offers : Neighbourhood) (answer : Settled) → AnswersSettle s worker id offers answer t
+pub settle_stays : (s t : State) (worker id : ℕ) (offers : Neighbourhood) (answer : Settled) → AnswersSettle s worker id offers answer t
     → t.problem ≡ s.problem
-settle_keeps_problem s t worker id offers Done is = problem_after s t (Settle worker id) is.event
-settle_keeps_problem s t worker id offers Late is = ap (λ (u : State). u.problem) is.1
-settle_keeps_problem s t worker id offers (Stranger asked kept) is = ap (λ (u : State). u.problem) is.unchanged
+settle_stays s t worker id offers Done is = problem_after s t (Settle worker id) is.event
+settle_stays s t worker id offers Late is = ap (λ (u : State). u.problem) is.1
+settle_stays s t worker id offers (Stranger asked kept) is = ap (λ (u : State). u.problem) is.unchanged

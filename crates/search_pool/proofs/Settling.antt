@@ -64,7 +64,8 @@ pub ticket_small : (s : State) (ticket : Ticket) → IsSound s → IsTicket s ti
 ticket_small s ticket sound is =
     let key : size_of is.entry.key ≤ s.problem.cap =
     All-contains (λ (k : Packed). size_of k ≤ s.problem.cap) (keys s.entries) is.entry.key sound.bounds.cap
-    (map_contains (λ (e : Entry). e.key) s.entries is.entry (ticket.id, slice_get_within s.entries ticket.id is.entry is.stands, get_or_from_slice_get s.entries ticket.id is.entry is.entry is.stands)) in
+    (map_contains (λ (e : Entry). e.key) s.entries is.entry
+    (ticket.id, slice_get_within s.entries ticket.id is.entry is.stands, get_or_from_slice_get s.entries ticket.id is.entry is.entry is.stands)) in
     omega (arith, key, sym (size_of_key ticket.form.grid is.form.grid) ∙ ap size_of is.form.named)
 
 pub begun_problem : (p : Problem) (s : State) → Begins p s → s.problem ≡ p

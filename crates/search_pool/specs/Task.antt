@@ -10,8 +10,8 @@ use Rattle.search_book.specs.declared.answer.Settled.{Settled}
 use Rattle.search_book.specs.declared.answer.Settled.TheVariants.{Done, Late, Stranger}
 use Rattle.search_book.specs.Answers.{IsAllClaimed, IsTicket, AnswersSettle}
 use Rattle.search_pool.specs.declared.locked.Task.{Task}
-use Rattle.search_pool.specs.declared.locked.Handed.{Handed}
-use Rattle.search_pool.specs.declared.locked.Handed.TheVariants.{Work, Later, Over}
+use Rattle.search_pool.specs.declared.locked.TaskAnswer.{TaskAnswer}
+use Rattle.search_pool.specs.declared.locked.TaskAnswer.TheVariants.{Work, Later, Over}
 
 -- the diagram of the task has offers within its cap
 pub record AllowsOffers (task : Task) : Type 0 where
@@ -26,7 +26,7 @@ pub record IsTaskOf (s : State) (worker : ℕ) (task : Task) (t : State) : Type 
   pub cap : task.cap ≡ s.problem.cap
 
 -- what a worker is handed in the state s, and the state t after it
-abbrev pub IsHanded : State → ℕ → Handed → State → Type 0
+abbrev pub IsHanded : State → ℕ → TaskAnswer → State → Type 0
 IsHanded s worker (Work task) t = IsTaskOf s worker task t
 IsHanded s worker Later t = IsAllClaimed s × (t ≡ s)
 IsHanded s worker Over t = (s.end ≢ None) × (t ≡ s)

@@ -5,7 +5,7 @@ ghost use Rattle.search_pool.specs.Holding.{IsHolding};
 ghost use Rattle.search_pool.specs.Seats.{SeatState};
 ghost use Rattle.search_pool.specs.Task.{AllowsOffers, IsHanded, Counts};
 
-use crate::locked::{Handed, Locked, Task, Waking};
+use crate::locked::{Locked, Task, TaskAnswer, Waking};
 use crate::seat::Seat;
 use crate::shared_problem::OfProblem;
 use next_moves::Offers;
@@ -17,7 +17,7 @@ use std::sync::{Condvar, Mutex, MutexGuard, Wait};
 const TRIES: u32 = 200;
 
 /// The most pauses between two tries.
-const MOST_PAUSES: u32 = 128;
+const MOST_PAUSES: u32 = 16;
 
 /// The lock of a shared book. What lies under it is reached by a holding alone.
 #[derive(Drop)]
@@ -37,6 +37,55 @@ pub struct Called<'a, L: Ledger, M: Ledger, K: OfProblem> {
     guard: MutexGuard<'a, Locked<L, M, K>>,
 }
 
+/// Room for eight words, as many as a line of memory has.
+type Line = [u64; 8];
+
+/// A lock with nothing under it. Who has it makes all holdings of a hand, and meets others at the lock of the book only where they had no plenty
+/// of entries or wait for a task: so the book, and its lock, mostly stay in one processor's cache. The lines beside this lock keep it apart from
+/// them, since those who wait for it write to its line.
+#[derive(Drop)]
+pub struct TurnLock {
+    ahead: Line,
+    lock: Mutex<Turn>,
+    behind: Line,
+}
+
+/// What lies under the lock of turns: nothing.
+#[derive(Drop)]
+pub struct Turn;
+
+impl TurnLock {
+    /// A free lock.
+    pub fn new() -> TurnLock {
+        TurnLock {
+            ahead: [0; 8],
+            lock: Mutex::new(Turn),
+            behind: [0; 8],
+        }
+    }
+
+    /// Takes the lock.
+    pub fn hold<R: Wait>(&self, rt: &R) -> MutexGuard<'_, Turn> {
+        taken(&self.lock, rt)
+    }
+}
+
+/// Takes a lock. That of the book is held for a microsecond and the other two for up to some tens, and to be woken takes longer, so a worker
+/// that finds one taken tries again for a while: after one pause, and then after twice as many each time, up to the most.
+pub fn taken<'a, T, R: Wait>(lock: &'a Mutex<T>, rt: &R) -> MutexGuard<'a, T> {
+    let mut pauses = 1u32;
+    for _ in 0..TRIES {
+        if let Some(guard) = lock.try_lock() {
+            return guard;
+        }
+        for _ in 0..pauses {
+            spin_loop();
+        }
+        pauses = pauses.saturating_add(pauses).min(MOST_PAUSES);
+    }
+    lock.lock(rt)
+}
+
 impl<L: Ledger, M: Ledger, K: OfProblem> BookLock<L, M, K> {
     /// A free lock.
     pub fn new(locked: Locked<L, M, K>) -> BookLock<L, M, K> {
@@ -45,22 +94,10 @@ impl<L: Ledger, M: Ledger, K: OfProblem> BookLock<L, M, K> {
         }
     }
 
-    /// Takes the lock. A holding is short, and to be woken takes longer, so a worker that finds the lock taken tries again for a
-    /// while: after one pause, and then after twice as many each time, up to the most. Meanwhile the worker that has the lock can let it
-    /// go and take it for its next call, with the book still in its processor's cache.
+    /// Takes the lock.
     pub fn hold<R: Wait>(&self, rt: &R) -> Holding<'_, L, M, K> {
-        let mut pauses = 1u32;
-        for _ in 0..TRIES {
-            if let Some(guard) = self.lock.try_lock() {
-                return Holding { guard };
-            }
-            for _ in 0..pauses {
-                spin_loop();
-            }
-            pauses = pauses.saturating_add(pauses).min(MOST_PAUSES);
-        }
         Holding {
-            guard: self.lock.lock(rt),
+            guard: taken(&self.lock, rt),
         }
     }
 
@@ -73,12 +110,12 @@ impl<L: Ledger, M: Ledger, K: OfProblem> BookLock<L, M, K> {
 
 impl<'a, L: Ledger, M: Ledger, K: OfProblem> Holding<'a, L, M, K> {
     /// One claim of the book, as `Locked::claim` has it.
-    pub fn claim(self, seat: &mut Seat<L, M>) -> (Handed, Called<'a, L, M, K>)
+    pub fn claim(self, seat: &mut Seat<L, M>) -> (TaskAnswer, Called<'a, L, M, K>)
         ensures book { IsHolding seat.old.worker (mutex_guard_value self.entry.guard).book (mutex_guard_value result.1.guard).book }
         ensures handed { IsHanded (mutex_guard_value self.entry.guard).book seat.old.worker result.0
             (mutex_guard_value result.1.guard).book }
-        ensures work { (task : Task) → result.0 ≡ Handed.Work task → AllowsOffers task }
-        ensures over { result.0 ≡ Handed.Over → seat.new.saw_end ≡ true }
+        ensures work { (task : Task) → result.0 ≡ TaskAnswer.Work task → AllowsOffers task }
+        ensures over { result.0 ≡ TaskAnswer.Over → seat.new.saw_end ≡ true }
         ensures worker { seat.new.worker ≡ seat.old.worker }
         ensures made { seat.new.made ≡ seat.old.made }
     {
@@ -93,6 +130,7 @@ impl<'a, L: Ledger, M: Ledger, K: OfProblem> Holding<'a, L, M, K> {
         seat: &mut Seat<L, M>,
         id: u32,
         offers: &Offers,
+        hints: &mut [u32],
     ) -> (Waking, Called<'a, L, M, K>)
         ensures book { IsHolding seat.old.worker (mutex_guard_value self.entry.guard).book (mutex_guard_value result.1.guard).book }
         ensures counts { Counts (mutex_guard_value self.entry.guard).book seat.old.worker id offers.now
@@ -102,7 +140,7 @@ impl<'a, L: Ledger, M: Ledger, K: OfProblem> Holding<'a, L, M, K> {
         ensures saw_end { seat.new.saw_end ≡ seat.old.saw_end }
     {
         let Holding { mut guard } = self;
-        let waking = guard.settle(seat, id, offers);
+        let waking = guard.settle(seat, id, offers, hints);
         (waking, Called { guard })
     }
 }

@@ -1,9 +1,10 @@
-//! Searchers over a book: they claim and settle until it is over.
+//! Workers at a book: they claim entries and settle them until it is over.
 #![tactic(auto)]
 
 mod finding;
 mod gate;
 mod hand;
+mod hints;
 mod holding;
 mod locked;
 mod many;

@@ -17,6 +17,11 @@ use std::sync::ledger::{Book as Tally, Ledger, Share};
 /// where another claims several.
 const PLENTY: u64 = 4096;
 
+/// Whether with this budget there can be plenty of entries that are not settled.
+pub fn allows_plenty(budget: u32) -> bool {
+    u64::from(budget) >= PLENTY
+}
+
 /// An entry that a worker has claimed, with all that its offers need: its diagram, and the cap of the book. And whether there
 /// is plenty of entries that are not settled.
 #[derive(Drop)]
@@ -29,9 +34,12 @@ pub struct Task {
 
 /// The answer to a worker that asks for a task.
 #[derive(Drop)]
-pub enum Handed {
+pub enum TaskAnswer {
+    /// A task to work at.
     Work(Task),
+    /// Nothing now: each entry is claimed, and the book is not over.
     Later,
+    /// Nothing more: the book is over.
     Over,
 }
 
@@ -42,6 +50,16 @@ pub enum Waking {
     Count(u32),
     /// All of them: the book is over.
     All,
+}
+
+impl Waking {
+    /// Whom two settlements wake.
+    pub fn and(self, other: Waking) -> Waking {
+        match (self, other) {
+            (Waking::Count(one), Waking::Count(more)) => Waking::Count(one.saturating_add(more)),
+            _ => Waking::All,
+        }
+    }
 }
 
 /// The book, which is of the problem that the type K stands for, the totals of its two ledgers, what is left of their parts beside the
@@ -93,27 +111,24 @@ impl<L: Ledger, M: Ledger, K: OfProblem> Locked<L, M, K> {
 
     /// One claim of the book. The seat notes the end, and a worker that finds nothing is
     /// counted as waiting.
-    #[tactic(auto, using(crate::proofs::Holdings::claim_holds, crate::proofs::Holdings::claim_keeps_problem, search_book::proofs::Recorded::claim_keeps_settlements))]
-    pub fn claim(&mut self, seat: &mut Seat<L, M>) -> Handed
+    #[tactic(auto, using(crate::proofs::Holdings::claim_holds, crate::proofs::Holdings::claim_stays, search_book::proofs::Recorded::claim_keeps_settlements,))]
+    pub fn claim(&mut self, seat: &mut Seat<L, M>) -> TaskAnswer
         ensures book { IsHolding seat.old.worker self.old.book self.new.book }
         ensures handed { IsHanded self.old.book seat.old.worker result self.new.book }
-        ensures work { (task : Task) → result ≡ Handed.Work task → AllowsOffers task }
-        ensures over { result ≡ Handed.Over → seat.new.saw_end ≡ true }
+        ensures work { (task : Task) → result ≡ TaskAnswer.Work task → AllowsOffers task }
+        ensures over { result ≡ TaskAnswer.Over → seat.new.saw_end ≡ true }
         ensures worker { seat.new.worker ≡ seat.old.worker }
         ensures made { seat.new.made ≡ seat.old.made }
     {
         let Locked {
             book,
-            made_ledger: _,
             end_ledger,
-            made_share: _,
-            end_share: _,
             waiting,
-            of: _,
+            ..
         } = self;
         let cap = book.problem().cap;
         match book.claim(seat.worker()) {
-            Claim::Work(ticket) => Handed::Work(Task {
+            Claim::Work(ticket) => TaskAnswer::Work(Task {
                 id: ticket.id,
                 form: ticket.form,
                 cap,
@@ -121,11 +136,11 @@ impl<L: Ledger, M: Ledger, K: OfProblem> Locked<L, M, K> {
             }),
             Claim::Later => {
                 *waiting = waiting.saturating_add(1);
-                Handed::Later
+                TaskAnswer::Later
             }
             Claim::Over(_) => {
                 seat.note_end(end_ledger);
-                Handed::Over
+                TaskAnswer::Over
             }
         }
     }
@@ -137,9 +152,15 @@ impl<L: Ledger, M: Ledger, K: OfProblem> Locked<L, M, K> {
         self.waiting = self.waiting.saturating_sub(1);
     }
 
-    /// One settlement of the book, counted by the seat where the offers were taken. Answers
+    /// One settlement of the book, with hints as `Book::settle_hinted` has them, counted by the seat where the offers were taken. Answers
     /// whom it wakes: for each entry that was admitted one of those that wait, and all where the book is over.
-    pub fn settle(&mut self, seat: &mut Seat<L, M>, id: u32, offers: &Offers) -> Waking
+    pub fn settle(
+        &mut self,
+        seat: &mut Seat<L, M>,
+        id: u32,
+        offers: &Offers,
+        hints: &mut [u32],
+    ) -> Waking
         ensures book { IsHolding seat.old.worker self.old.book self.new.book }
         ensures counts { Counts self.old.book seat.old.worker id offers.now self.new.book seat.old.made seat.new.made }
         ensures worker { seat.new.worker ≡ seat.old.worker }
@@ -149,14 +170,11 @@ impl<L: Ledger, M: Ledger, K: OfProblem> Locked<L, M, K> {
         let Locked {
             book,
             made_ledger,
-            end_ledger: _,
-            made_share: _,
-            end_share: _,
             waiting,
-            of: _,
+            ..
         } = self;
         let before = book.len();
-        settle_counted(book, made_ledger, seat, id, offers);
+        settle_counted(book, made_ledger, seat, id, offers, hints);
         if book.end().is_some() {
             Waking::All
         } else {
@@ -179,8 +197,7 @@ impl<L: Ledger, M: Ledger, K: OfProblem> Locked<L, M, K> {
             mut end_ledger,
             mut made_share,
             mut end_share,
-            waiting: _,
-            of: _,
+            ..
         } = self;
         for seat in seats {
             seat.give_back(&mut made_share, &mut end_share);
@@ -198,13 +215,14 @@ fn is_plenty(book: &Book) -> bool {
 }
 
 /// One settlement of the book, which the seat and the ledger of settlements count where the offers were taken.
-#[tactic(auto, using(crate::proofs::Holdings::settle_holds, crate::proofs::Holdings::settle_keeps_problem))]
+#[tactic(auto, using(crate::proofs::Holdings::settle_holds, crate::proofs::Holdings::settle_stays))]
 fn settle_counted<L: Ledger, M: Ledger>(
     book: &mut Book,
     made_ledger: &mut Tally<L>,
     seat: &mut Seat<L, M>,
     id: u32,
     offers: &Offers,
+    hints: &mut [u32],
 )
     requires { made_ledger.old.total ≡ settlements book.old.history }
     ensures book { IsHolding seat.old.worker book.old book.new }
@@ -216,7 +234,7 @@ fn settle_counted<L: Ledger, M: Ledger>(
     ensures made { seat.old.made ≤ seat.new.made }
     ensures saw_end { seat.new.saw_end ≡ seat.old.saw_end }
 {
-    if book.settle(seat.worker(), id, offers) == Settled::Done {
+    if book.settle_hinted(seat.worker(), id, offers, hints) == Settled::Done {
         seat.count(made_ledger);
     }
 }

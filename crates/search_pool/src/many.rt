@@ -24,8 +24,7 @@ use std::thread::{Builder, Threads};
 /// The greatest number of workers.
 pub const MAX_WORKERS: u32 = 64;
 
-/// How many bytes the stack of a worker's thread has: several times what the deepest call takes, most of which is for the offers of four
-/// entries.
+/// How many bytes the stack of a worker's thread has: several times what the deepest call takes, most of which is for a list of offers.
 const STACK: usize = 4_194_304;
 
 /// Searches with 1 to `MAX_WORKERS` workers at one book, until each of them has seen its end. Each has a thread of
@@ -51,10 +50,19 @@ pub fn pool<R: Threads + Wait + Sync, G: Gate + Sync>(
         problem,
         workers,
         gate,
-        Blank::new(parts),
-        Blank::new(parts),
+        Blanks {
+            made: Blank::new(parts),
+            ends: Blank::new(parts),
+        },
     )?;
     Ok(Finding::counted(book, settled))
+}
+
+/// The blanks of the ledger of settlements and of that of ends.
+#[derive(Drop)]
+struct Blanks {
+    made: Blank,
+    ends: Blank,
 }
 
 /// Begins the book, lets the workers work at it, and closes it: what comes back is of the problem and over, with the number of
@@ -71,22 +79,22 @@ fn run_workers<
     problem: Problem,
     workers: u32,
     gate: &G,
-    made_blank: Blank,
-    end_blank: Blank,
+    blanks: Blanks,
 ) -> Result<(Book, u64), OutOfMemory>
     requires bounded { IsBounded problem }
     requires of_problem { problem ≡ K.problem }
     requires some { 1 ≤ workers }
     requires workers { workers ≤ MAX_WORKERS }
-    requires made_blank { (made_blank.name ≡ L.name) × (made_blank.parts ≡ L.parts) × (L.parts ≡ workers) }
-    requires end_blank { (end_blank.name ≡ M.name) × (end_blank.parts ≡ M.parts) × (M.parts ≡ workers) }
+    requires made_blank { (blanks.made.name ≡ L.name) × (blanks.made.parts ≡ L.parts) × (L.parts ≡ workers) }
+    requires end_blank { (blanks.ends.name ≡ M.name) × (blanks.ends.parts ≡ M.parts) × (M.parts ≡ workers) }
     ensures problem { IfOk result (λ closed. closed.0.problem ≡ problem) }
     ensures over { IfOk result (λ closed. closed.0.end ≢ None) }
     ensures settled { IfOk result (λ closed. closed.1 ≡ settlements closed.0.history) }
 {
     let book = Book::begin(alloc, problem)?;
+    let Blanks { made, ends } = blanks;
     let (shared, mut seats): (SharedBook<L, M, K>, Vec<Seat<L, M>>) = SharedBook::new(
-        alloc, book, workers, made_blank, end_blank,
+        alloc, book, workers, made, ends,
     )?;
     work_all(rt, &shared, seats.as_mut_slice(), gate);
     Ok(shared.close(seats))

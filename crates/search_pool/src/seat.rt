@@ -2,12 +2,16 @@
 ghost use Rattle.std.specs.Prelude.{◌≡◌, ◌+◌, ◌-◌, ◌<◌, ◌≤◌, ◌^◌, true, if◌then◌else◌};
 ghost use Rattle.search_pool.specs.Seats.{SeatState, fresh};
 
+use crate::hand::Hand;
+use std::alloc::Global;
 use std::marker::Model;
+use std::mem;
 use std::sync::ledger::{Book as Tally, Ledger, Share};
 
 /// The seat of one worker at a shared book. Contracts see it as its worker's number, the settlements that this worker
 /// made, and whether it saw the end of the book. It holds one part of each of the book's two ledgers: what it made is its
-/// share of the ledger of settlements, and its share of the ledger of ends is 1 where it saw the end, and else 0.
+/// share of the ledger of settlements, and its share of the ledger of ends is 1 where it saw the end, and else 0. While the worker doesn't
+/// work it keeps the room for what the worker has in hand.
 #[derive(Drop)]
 pub struct Seat<L: Ledger, M: Ledger> {
     worker: u32,
@@ -15,6 +19,7 @@ pub struct Seat<L: Ledger, M: Ledger> {
     saw_end: bool,
     made_share: Share<L>,
     end_share: Share<M>,
+    hand: Hand,
 }
 
 impl<L: Ledger, M: Ledger> Model for Seat<L, M> {
@@ -54,7 +59,12 @@ impl<L: Ledger, M: Ledger> Seat<L, M> {
     }
 
     /// The seat of a worker that has made nothing yet, with one part of each ledger.
-    pub(crate) fn fresh(worker: u32, made_share: Share<L>, end_share: Share<M>) -> Seat<L, M>
+    pub(crate) fn fresh(
+        worker: u32,
+        made_share: Share<L>,
+        end_share: Share<M>,
+        hand: Hand,
+    ) -> Seat<L, M>
         requires made_share { (made_share.parts ≡ 1) × (made_share.amount ≡ 0) }
         requires end_share { (end_share.parts ≡ 1) × (end_share.amount ≡ 0) }
         ensures { result ≡ fresh worker }
@@ -65,7 +75,22 @@ impl<L: Ledger, M: Ledger> Seat<L, M> {
             saw_end: false,
             made_share,
             end_share,
+            hand,
         }
+    }
+
+    /// Takes room for the further tasks of the worker, as far as memory for it can be had.
+    pub(crate) fn reserve_others(&mut self, alloc: Global)
+        ensures { self.new ≡ self.old }
+    {
+        self.hand.reserve_others(alloc);
+    }
+
+    /// Gives the places of the worker for others.
+    pub(crate) fn swap_hand(&mut self, hand: &mut Hand)
+        ensures { self.new ≡ self.old }
+    {
+        mem::swap(&mut self.hand, hand);
     }
 
     /// Counts a settlement, here and in the ledger of settlements.

@@ -6,9 +6,10 @@ ghost use Rattle.search_pool.specs.Seats.{SeatState, fresh_seats, all_made, how_
 ghost use Rattle.search_pool.specs.Task.{AllowsOffers};
 
 use crate::gate::Gate;
-use crate::hand::{Hand, TaskPlace};
-use crate::holding::BookLock;
-use crate::locked::{Handed, Locked, Task, Waking};
+use crate::hand::Hand;
+use crate::hints::Hints;
+use crate::holding::{BookLock, TurnLock};
+use crate::locked::{Locked, Task, TaskAnswer, Waking, allows_plenty};
 use crate::seat::Seat;
 use crate::shared_problem::OfProblem;
 use memory_core::OutOfMemory;
@@ -20,18 +21,22 @@ use std::sync::{Condvar, Wait};
 
 /// A book under a lock, for workers in threads of their own. It is of the problem that the type K stands for. Whenever the lock is free
 /// the book is sound and replays its own history. Each holding of the lock makes at most one event, by clause: its call, a claim or a
-/// settlement, uses it up, and what lies under the lock is reached by a holding alone. Offers are found without the lock. Two ledgers tie
-/// the book to its seats: one counts settlements, and the other the workers that saw the end.
+/// settlement, uses it up, and what lies under the lock is reached by a holding alone. Offers are found without the lock, and so are hints
+/// of where their keys stand, under a lock of their own. Two ledgers tie the book to its seats: one counts settlements, and the other the
+/// workers that saw the end.
 #[derive(Drop)]
 pub struct SharedBook<L: Ledger, M: Ledger, K: OfProblem> {
     lock: BookLock<L, M, K>,
+    turn: TurnLock,
     changed: Condvar,
+    hints: Hints,
 }
 
 impl<L: Ledger, M: Ledger, K: OfProblem> SharedBook<L, M, K> {
     /// A book to share, whose history is still empty, with one seat for each of 1 to `MAX_WORKERS` workers, by their
     /// numbers from 0. The two blanks are of the ledger of settlements and of that of ends, which have as many parts as
-    /// there are workers. On want of memory, which is the one error, the book is dropped.
+    /// there are workers. Memory is taken for the seats and for one list of offers a worker; want of it is the one error, and the book
+    /// is dropped. Where the budget allows plenty of entries more lists and hints are taken; refused memory for these costs time alone.
     pub fn new(
         alloc: Global,
         book: Book,
@@ -51,56 +56,103 @@ impl<L: Ledger, M: Ledger, K: OfProblem> SharedBook<L, M, K> {
         let (end_ledger, mut end_share) = end_blank.open::<M>();
         let mut seats = Vec::with_capacity(alloc, workers as usize)?;
         for worker in 0..workers {
+            let hand = Hand::with_first(alloc)?;
             seats.push_reserved(Seat::fresh(
                 worker,
                 made_share.split_off(1, 0),
                 end_share.split_off(1, 0),
+                hand,
             ));
         }
+        reserve_others(alloc, book.problem().budget, seats.as_mut_slice());
+        let hints = Hints::new(alloc, book.problem());
         let shared = SharedBook {
             lock: BookLock::new(Locked::new(book, made_ledger, end_ledger, made_share, end_share)),
+            turn: TurnLock::new(),
             changed: Condvar::new(),
+            hints,
         };
         Ok((shared, seats))
     }
 
-    /// Works at the book until its end is seen: claims the next entry, and further ones where there is plenty of them, passes the
-    /// gate and finds the offers for each, and settles them, again and again. Where each entry is claimed and the book is not over it
-    /// waits for others. Each settlement that it makes is counted in its seat. What is promised holds where it returns. As the code
-    /// is written it takes no memory: of all that it calls only the index of the book has an allocator, with room for the whole
-    /// budget. It stands out of line, since its frame holds the offers of all that is in hand: whoever halves the seats among threads
-    /// would have that frame once a level.
-    #[inline(never)]
+    /// Works at the book until its end is seen: settles what it has in hand, claims the next entry, and further ones where there is plenty of
+    /// them, passes the gate and finds the offers for each, again and again. Where each entry is claimed and the book is not over it waits
+    /// for others. Each settlement that it makes is counted in its seat. What is promised holds where it returns. No clause says that it
+    /// takes no memory; as the code is written it doesn't: of all that it calls only the index of the book has an allocator, with room for
+    /// the whole budget, and the seat has room for the offers.
     pub fn work<R: Wait, G: Gate>(&self, rt: &R, seat: &mut Seat<L, M>, gate: &G)
         ensures worker { seat.new.worker ≡ seat.old.worker }
         ensures made { seat.old.made ≤ seat.new.made }
         ensures saw_end { seat.new.saw_end ≡ true }
     {
         let mut hand = Hand::empty();
+        seat.swap_hand(&mut hand);
         for _ in rt.forever() {
-            if !self.claim_all(rt, seat, &mut hand) {
+            if !self.next_hand(rt, seat, &mut hand) {
+                seat.swap_hand(&mut hand);
                 return;
             }
-            hand.find_offers(seat.worker(), gate);
-            self.settle_all(rt, seat, &mut hand);
+            self.find_offers(rt, seat.worker(), &mut hand, gate);
         }
         unreachable!()
     }
 
-    /// Claims the next task, and further ones where there is plenty, each in a holding of its own; false where the worker saw the end
-    /// before the first. One after the other they cost less: the book stays in its processor's cache.
-    fn claim_all<R: Wait>(&self, rt: &R, seat: &mut Seat<L, M>, hand: &mut Hand) -> bool
+    /// Passes the gate for each task in hand and finds its offers; where there is plenty, with hints.
+    fn find_offers<R: Wait, G: Gate>(&self, rt: &R, worker: u32, hand: &mut Hand, gate: &G)
+        ensures { hand.new ≡ hand.old }
+    {
+        if hand.has_plenty() {
+            self.hints.note(rt, hand);
+            hand.find_offers(worker, gate);
+            self.hints.look(rt, hand);
+        } else {
+            hand.find_offers(worker, gate);
+        }
+    }
+
+    /// Settles what is in hand and claims the next task, for which it may wait; where there was plenty it takes a turn for that, and only
+    /// waits behind it. False where the worker saw the end.
+    fn next_hand<R: Wait>(&self, rt: &R, seat: &mut Seat<L, M>, hand: &mut Hand) -> bool
         ensures over { result ≡ false → seat.new.saw_end ≡ true }
+        ensures worker { seat.new.worker ≡ seat.old.worker }
+        ensures made { seat.old.made ≤ seat.new.made }
+    {
+        if hand.has_plenty() {
+            if self.take_turn(rt, seat, hand) {
+                return true;
+            }
+        } else {
+            let waking = self.settle_all(rt, seat, hand);
+            self.wake(waking);
+        }
+        self.claim_one(rt, seat, hand)
+    }
+
+    /// Settles what is in hand and claims the next tasks, in one turn, and wakes others behind it; false where there was no task.
+    fn take_turn<R: Wait>(&self, rt: &R, seat: &mut Seat<L, M>, hand: &mut Hand) -> bool
+        ensures worker { seat.new.worker ≡ seat.old.worker }
+        ensures made { seat.old.made ≤ seat.new.made }
+    {
+        let turn = self.turn.hold(rt);
+        let waking = self.settle_all(rt, seat, hand);
+        let has_claimed = self.claim_all(rt, seat, hand);
+        drop(turn);
+        self.wake(waking);
+        has_claimed
+    }
+
+    /// Claims the next task, and further ones where there is plenty and room, each in a holding of its own; false where there was none.
+    fn claim_all<R: Wait>(&self, rt: &R, seat: &mut Seat<L, M>, hand: &mut Hand) -> bool
         ensures worker { seat.new.worker ≡ seat.old.worker }
         ensures made { seat.new.made ≡ seat.old.made }
     {
-        let Some(task) = self.next(rt, seat) else {
+        let Some(task) = self.one_more(rt, seat) else {
             return false;
         };
         let mut plenty = task.plenty;
         hand.first.put(task);
         for place in hand.others.iter_mut() {
-            if !plenty {
+            if !plenty || !place.has_room() {
                 break;
             }
             let Some(task) = self.one_more(rt, seat) else {
@@ -112,26 +164,31 @@ impl<L: Ledger, M: Ledger, K: OfProblem> SharedBook<L, M, K> {
         true
     }
 
-    /// Settles each task in hand, in a holding of its own.
-    fn settle_all<R: Wait>(&self, rt: &R, seat: &mut Seat<L, M>, hand: &mut Hand)
+    /// Claims the next task, for which it may wait; false where the worker saw the end.
+    fn claim_one<R: Wait>(&self, rt: &R, seat: &mut Seat<L, M>, hand: &mut Hand) -> bool
+        ensures over { result ≡ false → seat.new.saw_end ≡ true }
         ensures worker { seat.new.worker ≡ seat.old.worker }
-        ensures made { seat.old.made ≤ seat.new.made }
+        ensures made { seat.new.made ≡ seat.old.made }
     {
-        self.settle_place(rt, seat, &mut hand.first);
-        for place in hand.others.iter_mut() {
-            self.settle_place(rt, seat, place);
+        match self.next(rt, seat) {
+            Some(task) => {
+                hand.first.put(task);
+                true
+            }
+            None => false,
         }
     }
 
-    /// Settles the task of a place, where there is one, and takes it away.
-    fn settle_place<R: Wait>(&self, rt: &R, seat: &mut Seat<L, M>, place: &mut TaskPlace)
+    /// Settles each task in hand, in a holding of its own, and answers whom that wakes.
+    fn settle_all<R: Wait>(&self, rt: &R, seat: &mut Seat<L, M>, hand: &mut Hand) -> Waking
         ensures worker { seat.new.worker ≡ seat.old.worker }
         ensures made { seat.old.made ≤ seat.new.made }
     {
-        if let Some((id, offers)) = place.found() {
-            self.settle(rt, seat, id, offers);
+        let mut waking = hand.first.settle(rt, self, seat);
+        for place in hand.others.iter_mut() {
+            waking = waking.and(place.settle(rt, self, seat));
         }
-        place.clear();
+        waking
     }
 
     /// One more task, where there is one.
@@ -142,9 +199,9 @@ impl<L: Ledger, M: Ledger, K: OfProblem> SharedBook<L, M, K> {
     {
         let (handed, called) = self.lock.hold(rt).claim(seat);
         match handed {
-            Handed::Work(task) => Some(task),
-            Handed::Over => None,
-            Handed::Later => {
+            TaskAnswer::Work(task) => Some(task),
+            TaskAnswer::Over => None,
+            TaskAnswer::Later => {
                 called.go_on();
                 None
             }
@@ -163,21 +220,33 @@ impl<L: Ledger, M: Ledger, K: OfProblem> SharedBook<L, M, K> {
         for _ in rt.forever() {
             let (handed, called) = holding.claim(seat);
             match handed {
-                Handed::Work(task) => return Some(task),
-                Handed::Over => return None,
-                Handed::Later => holding = called.wait(rt, &self.changed),
+                TaskAnswer::Work(task) => return Some(task),
+                TaskAnswer::Over => return None,
+                TaskAnswer::Later => holding = called.wait(rt, &self.changed),
             }
         }
         unreachable!()
     }
 
-    /// Settles an entry, and wakes others behind the lock.
-    fn settle<R: Wait>(&self, rt: &R, seat: &mut Seat<L, M>, id: u32, offers: &Offers)
+    /// Settles an entry, and answers whom that wakes. The ids are hints as `Book::settle_hinted` has them.
+    pub(crate) fn settle<R: Wait>(
+        &self,
+        rt: &R,
+        seat: &mut Seat<L, M>,
+        id: u32,
+        offers: &Offers,
+        ids: &mut [u32],
+    ) -> Waking
         ensures worker { seat.new.worker ≡ seat.old.worker }
         ensures made { seat.old.made ≤ seat.new.made }
     {
-        let (waking, called) = self.lock.hold(rt).settle(seat, id, offers);
+        let (waking, called) = self.lock.hold(rt).settle(seat, id, offers, ids);
         drop(called);
+        waking
+    }
+
+    /// Wakes workers that wait for a task.
+    fn wake(&self, waking: Waking) {
         match waking {
             Waking::All => self.changed.notify_all(),
             Waking::Count(count) => {
@@ -199,7 +268,18 @@ impl<L: Ledger, M: Ledger, K: OfProblem> SharedBook<L, M, K> {
         ensures over { 0 < how_many_saw_end seats.items → result.0.end ≢ None }
         ensures problem { result.0.problem ≡ K.problem }
     {
-        let SharedBook { lock, changed: _ } = self;
+        let SharedBook { lock, .. } = self;
         lock.into_inner().close(seats)
+    }
+}
+
+/// Takes room for the further tasks of each worker, where with this budget there can be plenty and as far as memory can be had.
+fn reserve_others<L: Ledger, M: Ledger>(alloc: Global, budget: u32, seats: &mut [Seat<L, M>])
+    ensures { seats.new ≡ seats.old }
+{
+    if allows_plenty(budget) {
+        for seat in seats.iter_mut() {
+            seat.reserve_others(alloc);
+        }
     }
 }

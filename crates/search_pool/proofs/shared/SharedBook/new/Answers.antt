@@ -1,5 +1,6 @@
-use Rattle.std.proofs.Common.{rules}
-use Rattle.search_pool.proofs.SeatLists.{as_many_seats, fresh_more}
+use Rattle.std.proofs.Common.{rules, ◌≡◌, ◌∙◌, ap, arith}
+use Rattle.search_pool.specs.Seats.{fresh_seats}
+use Rattle.search_pool.proofs.SeatLists.{as_many_seats, fresh_more, written_over}
 use Rattle.search_pool.proofs.shared.SharedBook.new.Goals as goal
 
 pub push_reserved-requires : goal.push_reserved-requires
@@ -11,3 +12,10 @@ pub loop-worker-preserved : goal.loop-worker-preserved
 loop-worker-preserved g l =
     let more = fresh_more l.loop-worker.worker l.loop-worker.seats.items (search rules) in
     (search (rules, more))
+
+pub returns : goal.returns
+returns g c =
+    let all : c.loop-worker.worker ≡ c.args.workers = omega (arith, c.loop-worker.invariant.0) in
+    let same = written_over c.loop-worker.seats.len c.reserve_others.new.seats c.loop-worker.seats.items (search rules) (search rules) in
+    let kept : c.reserve_others.new.seats ≡ c.loop-worker.seats.items = search rules in
+    record { seats = same ∙ kept ∙ c.loop-worker.invariant.5 ∙ ap fresh_seats all }

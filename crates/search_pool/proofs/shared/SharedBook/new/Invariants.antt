@@ -4,4 +4,11 @@ use Rattle.search_pool.proofs.shared.SharedBook.new.Given as goal
 
 abbrev pub invariant-loop-worker : goal.invariant-loop-worker
 invariant-loop-worker g l =
-    (l.made_share.parts + l.worker ≡ l.workers) × (l.end_share.parts + l.worker ≡ l.workers) × (l.made_share.amount ≡ 0) × (l.end_share.amount ≡ 0) × (l.workers ≤ vec_capacity l.seats) × (l.seats.items ≡ fresh_seats l.worker) × (l.made_ledger.total ≡ 0) × (l.end_ledger.total ≡ 0)
+    (l.made_share.parts + l.worker ≡ l.workers)
+    × (l.end_share.parts + l.worker ≡ l.workers)
+    × (l.made_share.amount ≡ 0)
+    × (l.end_share.amount ≡ 0)
+    × (l.workers ≤ vec_capacity l.seats)
+    × (l.seats.items ≡ fresh_seats l.worker)
+    × (l.made_ledger.total ≡ 0)
+    × (l.end_ledger.total ≡ 0)

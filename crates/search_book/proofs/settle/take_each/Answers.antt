@@ -4,7 +4,7 @@ use Rattle.search_book.specs.EntryList.{EntriesIn}
 use Rattle.search_book.proofs.Rest.{rest_after}
 use Rattle.search_book.proofs.Sizes.{fits_too}
 use Rattle.search_book.proofs.Taking.{taken, one_more, ended_here}
-use Rattle.search_book.proofs.settle.take_all.Goals as goal
+use Rattle.search_book.proofs.settle.take_each.Goals as goal
 
 pub returns-in-Met-clause-taken : goal.returns-in-Met-clause-taken
 returns-in-Met-clause-taken c =

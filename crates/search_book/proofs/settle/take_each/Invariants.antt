@@ -1,6 +1,6 @@
 use Rattle.std.proofs.Common.{◌≡◌, None, take}
 use Rattle.search_book.specs.Settle.{taken_all}
-use Rattle.search_book.proofs.settle.take_all.Given as goal
+use Rattle.search_book.proofs.settle.take_each.Given as goal
 
 -- the offers so far were taken, and none of them ended the book
 abbrev pub invariant-loop-offer : goal.invariant-loop-offer
