@@ -12,7 +12,7 @@ use std::io::{Read, Write};
 use std::sync::Wait;
 use std::thread::Threads;
 
-/// Does what the words ask for, with workers in `threads`, and answers the status with which such a call ends. It is lent memory and
+/// Does what the words ask for, with workers in `threads`, and returns the status with which such a call ends. It is lent memory and
 /// threads, and no stream or file but the ports.
 pub(crate) fn call<T: Threads + Wait + Sync, R: Read + Drop, W: Write + Drop>(
     threads: &T,

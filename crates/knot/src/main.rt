@@ -8,12 +8,10 @@ mod tell;
 use crate::program::program;
 use crate::tell::Terminal;
 use knot_jobs::Ports;
-use knot_ports::{MAX_INPUT, NoWords, StdSink, StdSource, on_stack, system_words};
+use knot_ports::{NoWords, StdSink, StdSource, on_stack, system_words};
 use std::io::IsTerminal;
 use std::process::ExitCode;
 
-/// How many bytes of the input are kept, to say why a line of it is bad. Evidence goes further, and its lines are told without a reason.
-const KEPT: usize = MAX_INPUT + 1;
 /// How many bytes the stack of a call has: several times what the deepest one takes.
 const STACK: usize = 4_194_304;
 
@@ -24,9 +22,10 @@ fn main(rt: HostRuntime) -> ExitCode {
             rt.alloc(),
             system_words(&rt),
             &mut Ports {
-                source: StdSource::new(rt.alloc(), rt.stdin(), KEPT),
+                source: StdSource::new(rt.stdin()),
                 sink: StdSink::new(rt.stdout()),
                 kept: None,
+                input: Vec::new(rt.alloc()),
             },
             &Terminal {
                 rt: &rt,

@@ -1,4 +1,4 @@
-//! All that `main` does: a call of the words that came, and what is told beside its answer.
+//! All that `main` does: a call of the words that came, and what is reported beside its answer.
 ghost use Rattle.knot_jobs.specs.Call.{as_many_as_asked};
 ghost use Rattle.knot_ports.specs.Change.{port_change};
 ghost use Rattle.knot.specs.KnotExit.{came, EndsKnot};
@@ -31,7 +31,7 @@ pub(crate) fn program<T: Threads + Wait + Sync, R: Read + Drop, W: Write + Drop,
             let list = words.as_slice();
             messages.tell_reading(list);
             let status = call(threads, alloc, list, ports);
-            messages.tell_end(list, status, &ports.source, &ports.sink);
+            messages.tell_end(list, status, ports);
             status.exit_code()
         }
         Err(why) => {

@@ -1,6 +1,6 @@
-//! What is told on standard error, where that is a terminal.
+//! What is written to standard error, where that is a terminal.
 
-use knot_jobs::Status;
+use knot_jobs::{Ports, Status};
 use knot_ports::{NoWords, StdSink, StdSource};
 use knot_tells::{reading, sentence_of};
 use std::alloc::Global;
@@ -17,15 +17,14 @@ pub(crate) trait Tell {
         &self,
         words: &[String],
         status: Status,
-        source: &StdSource<R>,
-        sink: &StdSink<W>,
+        ports: &Ports<StdSource<R>, StdSink<W>>,
     );
 
     /// Tells why the system gives no words.
     fn tell_no_words(&self, why: &NoWords);
 }
 
-/// Standard error, on which nothing is told but where it is a terminal, and the files, to see whether a word names one.
+/// Standard error, to which nothing is written but where it is a terminal, and the files, to see whether a word names one.
 #[derive(Drop)]
 pub(crate) struct Terminal<'a, T> {
     pub(crate) rt: &'a T,
@@ -47,13 +46,20 @@ impl<'a, T: Eprint + Files> Tell for Terminal<'a, T> {
         &self,
         words: &[String],
         status: Status,
-        source: &StdSource<R>,
-        sink: &StdSink<W>,
+        ports: &Ports<StdSource<R>, StdSink<W>>,
     ) {
         if !self.is_written {
             return;
         }
-        if let Some(sentence) = sentence_of(self.rt, self.alloc, words, status, source, sink) {
+        if let Some(sentence) = sentence_of(
+            self.rt,
+            self.alloc,
+            words,
+            status,
+            &ports.source,
+            ports.input.as_slice(),
+            &ports.sink,
+        ) {
             let _told = eprintln!(self.rt; "knot: {sentence}");
         }
     }

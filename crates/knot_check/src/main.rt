@@ -1,4 +1,4 @@
-//! The checker: rules on the evidence that stands on standard input, and writes the ruling to standard output, as `knot check`.
+//! The checker: rules on the evidence on standard input, and writes the ruling to standard output, as `knot check`.
 #![tactic(auto)]
 
 mod call;
@@ -12,7 +12,7 @@ fn main(rt: HostRuntime) -> ExitCode {
     program(
         rt.alloc(),
         system_words(&rt),
-        &mut StdSource::new(rt.alloc(), rt.stdin(), 0),
+        &mut StdSource::new(rt.stdin()),
         &mut StdSink::new(rt.stdout()),
     )
 }

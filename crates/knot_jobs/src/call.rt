@@ -33,12 +33,12 @@ const USAGE: &[u8] = b"usage: knot JOB [--workers W] [--budget B] [--spare S] [-
 /// `WriteFault` has written a front of what was due. Faults come only where the source's or sink's own count of faults rose. Where
 /// `decide` or `check` ends with `Done`, what the verdict, the evidence by numbers or the table says is true; where
 /// `linking` or `weights` writes `different`, no list of moves joins the two; and where `braidcheck` ends with `Done`, no quandle
-/// tells the closures of the two braids apart by how many colourings they have.
+/// distinguishes the closures of the two braids by how many colourings they have.
 ///
-/// Where `decide` searched, and its answer was written, the search is left in the ports' `kept`; else that is None. It searches with as
-/// many workers as the words ask for, which pass the gate between a claim and its settlement; where they ask for one, it
-/// searches in the calling thread and passes no gate. All this holds however the workers interleave, where the call returns:
-/// workers may wait for each other.
+/// Where `decide` searched, and its answer was written, the search is left in the ports' `kept`; else that is None. The bytes that were
+/// answered are left in their `input`. `decide` searches with as many workers as the words ask for, which pass the gate between a claim and
+/// its settlement; where they ask for one, it searches in the calling thread and passes no gate. All this holds however the workers
+/// interleave, where the call returns: workers may wait for each other.
 pub fn run<R: Threads + Wait + Sync, S: Source, K: Sink, G: Gate + Sync>(
     rt: &R,
     alloc: Global,
@@ -50,11 +50,12 @@ pub fn run<R: Threads + Wait + Sync, S: Source, K: Sink, G: Gate + Sync>(
     ensures reads { S.faults ports.old.source ≤ S.faults ports.new.source }
     ensures writes { K.faults ports.old.sink ≤ K.faults ports.new.sink }
 {
+    ports.input = Vec::new(alloc);
     let asked = match begin(alloc, words, &mut ports.kept) {
         Ok(asked) => asked,
         Err(fault) => return refuse(&mut ports.sink, fault),
     };
-    let reply = answer_source(rt, alloc, &asked, &mut ports.source, gate);
+    let reply = answer_source(rt, alloc, &asked, &mut ports.source, &mut ports.input, gate);
     end(&mut ports.sink, reply, &mut ports.kept)
 }
 
@@ -69,11 +70,12 @@ pub fn run_alone<S: Source, K: Sink>(
     ensures reads { S.faults ports.old.source ≤ S.faults ports.new.source }
     ensures writes { K.faults ports.old.sink ≤ K.faults ports.new.sink }
 {
+    ports.input = Vec::new(alloc);
     let asked = match begin(alloc, words, &mut ports.kept) {
         Ok(asked) => by_one_worker(asked),
         Err(fault) => return refuse(&mut ports.sink, fault),
     };
-    let reply = answer_source_alone(alloc, &asked, &mut ports.source);
+    let reply = answer_source_alone(alloc, &asked, &mut ports.source, &mut ports.input);
     end(&mut ports.sink, reply, &mut ports.kept)
 }
 
@@ -112,12 +114,14 @@ fn by_one_worker(asked: Asked) -> Asked
     }
 }
 
-/// The answer of the job that is asked for to all that the source gives; the error is the status of a call that writes nothing.
+/// The answer of the job that is asked for to all that the source gives, which becomes the input; the error is the status of a call that
+/// writes nothing.
 fn answer_source<R: Threads + Wait + Sync, S: Source, G: Gate + Sync>(
     rt: &R,
     alloc: Global,
     asked: &Asked,
     source: &mut S,
+    input: &mut Vec<u8>,
     gate: &G,
 ) -> Result<Reply, Status>
     requires bounds { IsWithinBounds asked.now }
@@ -127,15 +131,18 @@ fn answer_source<R: Threads + Wait + Sync, S: Source, G: Gate + Sync>(
     let Some(bytes) = read_for(alloc, asked.job, source)? else {
         return or_no_memory(Reply::too_long(alloc));
     };
-    or_no_memory(answer(rt, alloc, asked, bytes.as_slice(), gate))
+    let reply = answer(rt, alloc, asked, bytes.as_slice(), gate);
+    *input = bytes;
+    or_no_memory(reply)
 }
 
-/// The answer of the job that is asked for, of `decide` with one worker, to all that the source gives; the error is the status
-/// of a call that writes nothing.
+/// The answer of the job that is asked for, of `decide` with one worker, to all that the source gives, which becomes the input; the error
+/// is the status of a call that writes nothing.
 fn answer_source_alone<S: Source>(
     alloc: Global,
     asked: &Asked,
     source: &mut S,
+    input: &mut Vec<u8>,
 ) -> Result<Reply, Status>
     requires bounds { IsWithinBounds asked.now }
     requires one { asked.now.workers ≡ 1 }
@@ -145,7 +152,9 @@ fn answer_source_alone<S: Source>(
     let Some(bytes) = read_for(alloc, asked.job, source)? else {
         return or_no_memory(Reply::too_long(alloc));
     };
-    or_no_memory(answer_alone(alloc, asked, bytes.as_slice()))
+    let reply = answer_alone(alloc, asked, bytes.as_slice());
+    *input = bytes;
+    or_no_memory(reply)
 }
 
 /// The bytes that the source gives for a job; None where there are more than its limit. Where the job has no input there are none,
@@ -160,7 +169,7 @@ fn read_for<S: Source>(alloc: Global, job: Job, source: &mut S) -> Result<Option
     }
 }
 
-/// A reply that was made, or the status where memory was wanting.
+/// A reply that was made, or the status if memory ran out.
 fn or_no_memory(reply: Result<Reply, AllocError>) -> Result<Reply, Status>
     ensures ok { IfOk result (λ made. reply ≡ Ok made) }
     ensures err { IfErr result (λ s. s ≡ Status.OutOfMemory) }

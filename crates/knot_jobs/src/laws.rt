@@ -26,13 +26,13 @@ pub fn an_input_has_one_answer()
         → reply ≡ other }
 {}
 
-/// No answer to an input has the status of refused words, of a fault or of want of memory.
+/// No answer to an input has the status of refused words, of a fault or of memory that ran out.
 pub fn an_answer_has_its_own_status()
     ensures { (asked : Asked) (bytes : List ℕ) (reply : Reply) → Answers asked bytes reply → IsOfAnswer reply.status }
 {}
 
-/// Where the source tells its bytes, the words and these bytes decide the reply of a call of a job other than `decide`, `simplify`,
-/// `least`, `numbers` and `grid`, but for a counted fault and want of memory, however many workers search in it.
+/// Where a contract knows the bytes of the source, the words and these bytes decide the reply of a call of a job other than `decide`, `simplify`,
+/// `least`, `numbers` and `grid`, but for a counted fault and memory that ran out, however many workers search in it.
 pub fn the_words_and_the_input_decide()
     ensures { (input : List ℕ) (call again : Call) (asked : Asked) (reply other : Reply)
         → call.words ≡ again.words
@@ -46,7 +46,7 @@ pub fn the_words_and_the_input_decide()
 {}
 
 /// Where no count of faults rose, a call ends with the status of an answer that the job has to its input, and keeps the search
-/// behind it, or with the usage line where the words ask for nothing; or memory was wanting.
+/// after it, or with the usage line where the words ask for nothing; or memory ran out.
 pub fn a_call_without_faults_ends_with_what_is_due()
     ensures answer { (call : Call) (asked : Asked) (bytes : List ℕ) (s : Status) (kept : Option Finding) → EndsAnyCall call s kept
         → Asks call.words asked
@@ -61,7 +61,7 @@ pub fn a_call_without_faults_ends_with_what_is_due()
         → (s ≡ Status.Usage) ⊎ (s ≡ Status.OutOfMemory) }
 {}
 
-/// An input of the job's shape within its limit has the job's defined answer: `Done`, `Unknown` or `Rejected`; but `grid` may tell that
+/// An input of the job's shape within its limit has the job's defined answer: `Done`, `Unknown` or `Rejected`; but `grid` may say that
 /// a diagram of the code takes too many columns.
 pub fn an_input_in_shape_has_a_defined_answer()
     ensures { (asked : Asked) (bytes : List ℕ) (reply : Reply)
@@ -71,7 +71,7 @@ pub fn an_input_in_shape_has_a_defined_answer()
         → IsOfDefinedAnswer reply.status ⊎ IsBeyondColumns asked.job reply }
 {}
 
-/// A decision on an input, by a verdict or by numbers, whoever found it, is accepted by the job `check` behind the input, where both are within
+/// A decision on an input, by a verdict or by numbers, whoever found it, is accepted by the job `check` after the input, where both are within
 /// its limit of bytes.
 pub fn a_decision_is_accepted_by_check()
     ensures { (bytes text : List ℕ) → IsDecision bytes text → IsAcceptedByCheck bytes text }

@@ -38,14 +38,9 @@ pub(crate) fn number_behind(before: &[u8], text: &[u8]) -> Option<usize> {
     }
 }
 
-/// Whether a front of an input has this line with its line feed.
-pub(crate) fn has_line(front: &[u8], line: usize) -> bool {
-    front.iter().filter(|byte| **byte == b'\n').count() >= line
-}
-
 /// Whether the first line of an input is that of a table of knots.
-pub(crate) fn begins_table(front: &[u8]) -> bool {
-    let mut lines = Lines::new(front);
+pub(crate) fn begins_table(input: &[u8]) -> bool {
+    let mut lines = Lines::new(input);
     let Some(mut line) = lines.next_line() else {
         return false;
     };

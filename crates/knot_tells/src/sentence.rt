@@ -7,7 +7,7 @@ ghost use Rattle.knot_words.specs.Words.{Asks};
 ghost use Rattle.knot_tells.specs.Told.{AsksToDraw, IsOf, IsOfCode, IsOfInput, IsOfRefusal};
 
 use crate::jobs::Jobs;
-use crate::lines::{Named, begins_table, has_line, named_in};
+use crate::lines::{Named, begins_table, named_in};
 use crate::refusals::{Refusal, refusal_in};
 use crate::shapes::shape_of;
 use crate::words::{BadWords, bad_words};
@@ -27,7 +27,7 @@ pub enum Sentence<'a> {
     Words(BadWords<'a>),
     /// Why a line is bad.
     Line { line: usize, reason: Reason<'a> },
-    /// A line is bad, and it isn't known why.
+    /// A line of a table of knots is bad, or memory was wanting to say why.
     LineAlone { line: usize, is_limit: bool },
     /// A line of a code is bad.
     CodeLine { line: usize, is_limit: bool },
@@ -55,13 +55,15 @@ pub fn reading(alloc: Global, words: &[String]) -> Option<Job>
     }
 }
 
-/// What is told of a call that ended with this status, if anything is; its source and its sink were these.
+/// What is told of a call that ended with this status, if anything is; its source and its sink were these, and this the input that it
+/// answered.
 pub fn sentence_of<'a, R: Read + Drop, W: Write + Drop>(
     files: &impl Files,
     alloc: Global,
     words: &'a [String],
     status: Status,
     source: &'a StdSource<R>,
+    input: &'a [u8],
     sink: &'a StdSink<W>,
 ) -> Option<Sentence<'a>>
     ensures told { IfSome result (λ s. IsOf status s) }
@@ -78,7 +80,7 @@ pub fn sentence_of<'a, R: Read + Drop, W: Write + Drop>(
         },
         Status::Malformed | Status::Limit => {
             let is_limit = status == Status::Limit;
-            line_sentence(alloc, reading(alloc, words)?, is_limit, source, sink)
+            line_sentence(alloc, reading(alloc, words)?, is_limit, input, sink)
         }
         Status::ReadFault => Some(Sentence::Read {
             error: source.error(),
@@ -113,11 +115,11 @@ fn wide_sentence<'a>(job: Job, is_limit: bool, columns: usize) -> Option<Sentenc
 }
 
 /// What is told of the line that an answer names, of the length of the input, or of the columns of a drawing.
-fn line_sentence<'a, R: Read + Drop, W: Write + Drop>(
+fn line_sentence<'a, W: Write + Drop>(
     alloc: Global,
     job: Job,
     is_limit: bool,
-    source: &'a StdSource<R>,
+    input: &'a [u8],
     sink: &StdSink<W>,
 ) -> Option<Sentence<'a>>
     requires reads { job ≢ Job.Sample }
@@ -132,13 +134,13 @@ fn line_sentence<'a, R: Read + Drop, W: Write + Drop>(
     let Some(shape) = shape_of(job) else {
         return Some(Sentence::CodeLine { line, is_limit });
     };
-    let front = source.front();
-    let is_table = job == Job::Plain(PlainJob::Check) && begins_table(front);
-    if !is_table && (source.is_whole() || has_line(front, line)) {
-        let reason = reason_in(alloc, shape, front, line, is_limit);
-        return Some(Sentence::Line { line, reason });
+    if job == Job::Plain(PlainJob::Check) && begins_table(input) {
+        return Some(Sentence::LineAlone { line, is_limit });
     }
-    Some(Sentence::LineAlone { line, is_limit })
+    match reason_in(alloc, shape, input, line, is_limit) {
+        Ok(reason) => Some(Sentence::Line { line, reason }),
+        Err(_) => Some(Sentence::LineAlone { line, is_limit }),
+    }
 }
 
 impl<'a> fmt::Display for Sentence<'a> {

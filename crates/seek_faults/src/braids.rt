@@ -1,5 +1,6 @@
 //! Why a line is no braid.
 
+use crate::numbers::number_of;
 use crate::reason::{Due, Reason};
 use crate::shown::{Shown, write_blanks};
 use braid_core::MAX_STRANDS;
@@ -62,70 +63,71 @@ impl<'a> fmt::Display for BraidReason<'a> {
 
 /// Why the line of a braid is bad, from behind its first word.
 pub(crate) fn braid_reason<'a>(line: &mut Line<'a>, due: Due) -> Reason<'a> {
-    let Some(token) = line.next_token() else {
-        return Reason::Braid(BraidReason::NoStrands);
-    };
-    let Some(strands) = text_lines::number(token) else {
-        return Reason::NoNumber {
-            token: Shown(token),
-        };
-    };
-    let word = match Word::of(line, strands) {
-        Ok(word) => word,
-        Err(reason) => return reason,
-    };
-    if token.len() > MAX_DIGITS {
-        return Reason::Digits {
-            token: Shown(token),
-        };
+    match braid_fault(line) {
+        Ok(Some(reason)) => Reason::Braid(reason),
+        Ok(None) => Reason::Other { due },
+        Err(reason) => reason,
     }
-    match word.reason(strands) {
-        Some(reason) => Reason::Braid(reason),
-        None => Reason::Other { due },
+}
+
+/// Why what a line says is no braid, or None; the error is a token that is no number or has too many digits.
+fn braid_fault<'a>(line: &mut Line<'a>) -> Result<Option<BraidReason<'a>>, Reason<'a>> {
+    let Some(token) = line.next_token() else {
+        return Ok(Some(BraidReason::NoStrands));
+    };
+    let strands = number_of(token)?;
+    let word = Word::of(line, strands)?;
+    let is_long = token.len() > MAX_DIGITS;
+    match (word.long, is_long) {
+        (Some(token), _) => Err(Reason::Digits { token }),
+        (None, true) => Err(Reason::Digits {
+            token: Shown(token),
+        }),
+        (None, false) => Ok(word.reason(strands)),
+    }
+}
+
+/// The value of a letter, or why a token is none.
+fn letter_of<'a>(token: &'a [u8]) -> Result<i64, Reason<'a>> {
+    match letter(token) {
+        Some(value) => Ok(value),
+        None => Err(Reason::Braid(BraidReason::NoLetter {
+            token: Shown(token),
+        })),
     }
 }
 
 /// The letters of a line.
 #[derive(Drop)]
-struct Word {
+struct Word<'a> {
     /// How many there are.
     count: usize,
     /// The first that crosses strands that are not there.
     bad: Option<i64>,
+    /// The first that has too many digits.
+    long: Option<Shown<'a>>,
 }
 
-impl Word {
+impl<'a> Word<'a> {
     /// The letters that are left of a line of a braid of so many strands, or why some token is none.
-    fn of<'a>(line: &mut Line<'a>, strands: u32) -> Result<Word, Reason<'a>> {
+    fn of(line: &mut Line<'a>, strands: u32) -> Result<Word<'a>, Reason<'a>> {
         let mut word = Word {
             count: 0,
             bad: None,
+            long: None,
         };
-        let mut long = None;
         for _token in 0..u64::MAX {
             let Some(token) = line.next_token() else {
                 break;
             };
-            let Some(value) = letter(token) else {
-                return Err(Reason::Braid(BraidReason::NoLetter {
-                    token: Shown(token),
-                }));
-            };
-            if value.unsigned_abs() > u64::from(MAX_NUMBER) && long.is_none() {
-                long = Some(token);
-            }
-            word.take(value, strands);
+            let value = letter_of(token)?;
+            word.take(token, value, strands);
         }
-        match long {
-            Some(token) => Err(Reason::Digits {
-                token: Shown(token),
-            }),
-            None => Ok(word),
-        }
+        Ok(word)
     }
 
     /// Why so many strands and these letters are no braid: by a limit, and only then by what they say.
-    fn reason<'a>(&self, strands: u32) -> Option<BraidReason<'a>> {
+    fn reason(&self, strands: u32) -> Option<BraidReason<'a>> {
         let letters = self.count;
         if strands as usize > MAX_STRANDS {
             return Some(BraidReason::Strands { strands });
@@ -141,9 +143,13 @@ impl Word {
     }
 
     /// Takes one letter more.
-    fn take(&mut self, value: i64, strands: u32) {
+    fn take(&mut self, token: &'a [u8], value: i64, strands: u32) {
         self.count = self.count.saturating_add(1);
-        let is_bad = value == 0 || value.unsigned_abs() >= u64::from(strands);
+        let size = value.unsigned_abs();
+        if size > u64::from(MAX_NUMBER) && self.long.is_none() {
+            self.long = Some(Shown(token));
+        }
+        let is_bad = value == 0 || size >= u64::from(strands);
         if is_bad && self.bad.is_none() {
             self.bad = Some(value);
         }

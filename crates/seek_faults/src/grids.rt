@@ -89,50 +89,51 @@ impl fmt::Display for GridReason {
     }
 }
 
-/// Why the line of the Xs is bad, from behind its first word.
-pub(crate) fn crosses_reason<'a>(line: &mut Line<'a>, due: Due) -> Reason<'a> {
-    let numbers = match Numbers::of(line) {
-        Ok(numbers) => numbers,
-        Err(reason) => return reason,
-    };
+/// The Xs of a line, from behind its first word, or why they are none.
+pub(crate) fn crosses_of<'a>(line: &mut Line<'a>) -> Result<Numbers<'a>, Reason<'a>> {
+    let numbers = Numbers::of(line)?;
     let count = numbers.count;
     if count < 2 {
-        return Reason::Grid(GridReason::FewColumns { count });
+        return Err(Reason::Grid(GridReason::FewColumns { count }));
     }
     match marks_reason(&numbers, Marks::Crosses, count) {
-        Some(reason) => Reason::Grid(reason),
-        None => Reason::Other { due },
+        Some(reason) => Err(Reason::Grid(reason)),
+        None => Ok(numbers),
     }
 }
 
 /// Why the line of the Os is bad, below these Xs.
 pub(crate) fn rings_reason<'a>(crosses: &Numbers, line: &mut Line<'a>, due: Due) -> Reason<'a> {
-    let numbers = match Numbers::of(line) {
-        Ok(numbers) => numbers,
+    let rings = match Numbers::of(line) {
+        Ok(rings) => rings,
         Err(reason) => return reason,
     };
+    match rings_fault(crosses, &rings) {
+        Some(reason) => Reason::Grid(reason),
+        None => Reason::Other { due },
+    }
+}
+
+/// Why numbers are not the Os of a diagram of these Xs.
+fn rings_fault(crosses: &Numbers, rings: &Numbers) -> Option<GridReason> {
     let columns = crosses.count;
-    if numbers.count <= MAX_SIZE && numbers.count != columns {
-        return Reason::Grid(GridReason::OtherCount {
-            rings: numbers.count,
+    if rings.count <= MAX_SIZE && rings.count != columns {
+        return Some(GridReason::OtherCount {
+            rings: rings.count,
             columns,
         });
     }
-    match marks_reason(&numbers, Marks::Rings, columns) {
-        Some(reason) => Reason::Grid(reason),
-        None => match one_cell(crosses, &numbers) {
-            Some(column) => Reason::Grid(GridReason::OneCell { column }),
-            None => Reason::Other { due },
-        },
+    match marks_reason(rings, Marks::Rings, columns) {
+        Some(reason) => Some(reason),
+        None => one_cell(crosses, rings),
     }
 }
 
 /// Why numbers are not the rows of the marks of a diagram of so many columns.
 fn marks_reason(numbers: &Numbers, marks: Marks, columns: usize) -> Option<GridReason> {
-    if numbers.count > MAX_SIZE {
-        return Some(GridReason::ManyColumns {
-            count: numbers.count,
-        });
+    let count = numbers.count;
+    if count > MAX_SIZE {
+        return Some(GridReason::ManyColumns { count });
     }
     if let Some(row) = numbers.outside(columns) {
         return Some(GridReason::NoRow { row, columns });
@@ -147,14 +148,14 @@ fn marks_reason(numbers: &Numbers, marks: Marks, columns: usize) -> Option<GridR
     })
 }
 
-/// The first column with both marks in one row.
-fn one_cell(crosses: &Numbers, rings: &Numbers) -> Option<usize> {
+/// That a column has both its marks in one cell, for the first such column.
+fn one_cell(crosses: &Numbers, rings: &Numbers) -> Option<GridReason> {
     let crosses = crosses.first.as_slice();
     let rings = rings.first.as_slice();
     let columns = crosses.len().min(rings.len());
     for column in 0..columns {
         if crosses[column] == rings[column] {
-            return Some(column);
+            return Some(GridReason::OneCell { column });
         }
     }
     None

@@ -1,5 +1,6 @@
 //! Why a line of an input is bad, in words, for whoever wrote it.
-//! That a line is bad the readers say, with a proof (text_items and above); here the line is read once more, to find out what is wrong with it.
+//! That a line is bad the readers say, with a proof (text_items and above); here they read the items once more,
+//! up to the bad one, to find out what is wrong with it.
 #![tactic(auto)]
 
 mod alone;

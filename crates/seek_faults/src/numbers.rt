@@ -8,52 +8,48 @@ use text_lines::{Line, MAX_DIGITS};
 
 /// The numbers that are left of a line.
 #[derive(Drop)]
-pub(crate) struct Numbers {
+pub(crate) struct Numbers<'a> {
     /// The first `MAX_LARGE_ORDER` of them.
     pub(crate) first: ArrayVec<u32, MAX_LARGE_ORDER>,
     /// How many there are.
     pub(crate) count: usize,
+    /// The first that has too many digits, which counts as a great one.
+    pub(crate) long: Option<Shown<'a>>,
 }
 
-impl Numbers {
+impl<'a> Numbers<'a> {
     /// The numbers that are left of a line, or why some token is none or has too many digits.
-    pub(crate) fn of<'a>(line: &mut Line<'a>) -> Result<Numbers, Reason<'a>> {
-        let (numbers, long) = Numbers::of_any_length(line)?;
+    pub(crate) fn of(line: &mut Line<'a>) -> Result<Numbers<'a>, Reason<'a>> {
+        let numbers = Numbers::of_any_length(line)?;
+        let long = numbers.long;
         match long {
             Some(token) => Err(Reason::Digits { token }),
             None => Ok(numbers),
         }
     }
 
-    /// The numbers that are left of a line, and the first that has too many digits, which counts as a great one; or why some token is no
-    /// number.
-    pub(crate) fn of_any_length<'a>(
-        line: &mut Line<'a>,
-    ) -> Result<(Numbers, Option<Shown<'a>>), Reason<'a>> {
+    /// The numbers that are left of a line, or why some token is none.
+    pub(crate) fn of_any_length(line: &mut Line<'a>) -> Result<Numbers<'a>, Reason<'a>> {
         let mut numbers = Numbers {
             first: ArrayVec::new(),
             count: 0,
+            long: None,
         };
-        let mut long = None;
         for _token in 0..u64::MAX {
             let Some(token) = line.next_token() else {
                 break;
             };
-            let Some(value) = text_lines::number(token) else {
-                return Err(Reason::NoNumber {
-                    token: Shown(token),
-                });
-            };
-            if token.len() > MAX_DIGITS && long.is_none() {
-                long = Some(Shown(token));
-            }
-            numbers.keep(value);
+            let value = number_of(token)?;
+            numbers.take(token, value);
         }
-        Ok((numbers, long))
+        Ok(numbers)
     }
 
-    /// Counts one more, and keeps it if there is room.
-    fn keep(&mut self, value: u32) {
+    /// Takes the number of one token more, and keeps it if there is room.
+    fn take(&mut self, token: &'a [u8], value: u32) {
+        if token.len() > MAX_DIGITS && self.long.is_none() {
+            self.long = Some(Shown(token));
+        }
         self.count = self.count.saturating_add(1);
         if !self.first.is_full() {
             self.first.push(value);
@@ -79,6 +75,16 @@ impl Numbers {
             }
         }
         None
+    }
+}
+
+/// The number that a token is, or why it is none.
+pub(crate) fn number_of<'a>(token: &'a [u8]) -> Result<u32, Reason<'a>> {
+    match text_lines::number(token) {
+        Some(value) => Ok(value),
+        None => Err(Reason::NoNumber {
+            token: Shown(token),
+        }),
     }
 }
 

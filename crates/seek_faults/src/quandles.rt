@@ -4,13 +4,10 @@ use crate::numbers::Numbers;
 use crate::reason::{Due, Reason};
 use crate::shown::Shown;
 use quandle_core::{LargeFault, LargeQuandle, MAX_LARGE_ORDER, MAX_ORDER, Quandle, QuandleFault};
-use std::alloc::Global;
+use std::alloc::{AllocError, Global};
 use std::fmt;
 use text_items::MAX_QUANDLES;
-use text_lines::Line;
-
-/// How many entries the largest table has.
-const MAX_ENTRIES: usize = MAX_LARGE_ORDER * MAX_LARGE_ORDER;
+use text_lines::{Line, Lines};
 
 /// The families of quandles that have names.
 #[derive(Clone, Copy, Debug, PartialEq, Eq)]
@@ -162,42 +159,31 @@ fn write_law<W: fmt::Write>(f: &mut fmt::Formatter<W>, fault: QuandleFault) -> f
     }
 }
 
-/// The order of the table that a line begins, from behind `quandle`, or None where it begins none.
-pub(crate) fn table_order(line: &mut Line) -> Option<usize> {
-    match Family::named(line.next_token()?)? {
-        Family::Table => Some(text_lines::number(line.next_token()?)? as usize),
-        _ => None,
-    }
-}
-
-/// Why the line of a quandle is bad, from behind its first word: by its form, by a limit, or by what it says. One quandle more than an
-/// input may have exceeds a limit whatever it says. A table has an order of at most `most`.
-pub(crate) fn quandle_reason<'a>(
+/// The order of the table that the line of a quandle begins, if it begins one, from behind its first word; or why the line is bad: by its
+/// form, by a limit, or by what it says. One quandle more than an input may have exceeds a limit whatever it says. A table has an order of
+/// at most `most`.
+pub(crate) fn quandle_line<'a>(
     line: &mut Line<'a>,
     is_surplus: bool,
     most: usize,
-    due: Due,
-) -> Reason<'a> {
-    let (family, numbers, long) = match named_numbers(line) {
-        Ok(found) => found,
-        Err(reason) => return reason,
-    };
+) -> Result<Option<usize>, Reason<'a>> {
+    let (family, numbers) = named_numbers(line)?;
     if is_surplus {
-        return Reason::Quandle(QuandleReason::Many);
+        return Err(Reason::Quandle(QuandleReason::Many));
     }
-    if let Some(token) = long {
-        return Reason::Digits { token };
+    if let Some(token) = numbers.long {
+        return Err(Reason::Digits { token });
     }
-    match numbers_reason(family, numbers.first.as_slice(), most) {
-        Some(reason) => Reason::Quandle(reason),
-        None => Reason::Other { due },
+    let numbers = numbers.first.as_slice();
+    match (numbers_reason(family, numbers, most), family, numbers) {
+        (Some(reason), _, _) => Err(Reason::Quandle(reason)),
+        (None, Family::Table, [order]) => Ok(Some(*order as usize)),
+        (None, _, _) => Ok(None),
     }
 }
 
-/// The family that a line names, the numbers behind it, as many as are due, and the first of them that has too many digits; or why not.
-fn named_numbers<'a>(
-    line: &mut Line<'a>,
-) -> Result<(Family, Numbers, Option<Shown<'a>>), Reason<'a>> {
+/// The family that a line names and the numbers behind it, as many as are due, of any length; or why not.
+fn named_numbers<'a>(line: &mut Line<'a>) -> Result<(Family, Numbers<'a>), Reason<'a>> {
     let Some(token) = line.next_token() else {
         return Err(Reason::Quandle(QuandleReason::NoName));
     };
@@ -206,12 +192,12 @@ fn named_numbers<'a>(
             token: Shown(token),
         }));
     };
-    let (numbers, long) = Numbers::of_any_length(line)?;
+    let numbers = Numbers::of_any_length(line)?;
     let count = numbers.count;
     if count != family.numbers() {
         return Err(Reason::Quandle(QuandleReason::Count { family, count }));
     }
-    Ok((family, numbers, long))
+    Ok((family, numbers))
 }
 
 /// Why there is no quandle of an order and, if there are two numbers, a factor. A table has an order of at most `most`.
@@ -248,70 +234,57 @@ fn large_reason<'a>(family: Family, order: u32, most: usize) -> Option<QuandleRe
     }
 }
 
-/// The table of a quandle, as far as it was read.
-#[derive(Drop)]
-pub(crate) struct Table {
+/// Why no table of this order is next. Want of memory is the only error.
+pub(crate) fn table_reason<'a>(
+    alloc: Global,
     order: usize,
-    pub(crate) rows: usize,
-    /// As many entries as the largest table has, and none for which memory was wanting.
-    entries: Vec<u8>,
+    lines: &mut Lines<'a>,
+) -> Result<Reason<'a>, AllocError> {
+    let mut entries = Vec::new(alloc);
+    for row in 0..order {
+        if let Some(reason) = push_row(&mut entries, order, row, lines)? {
+            return Ok(reason);
+        }
+    }
+    match LargeQuandle::new(alloc, order.min(255) as u8, entries.as_slice()) {
+        Err(LargeFault::Broken { fault }) => Ok(Reason::Quandle(QuandleReason::Law(fault))),
+        Err(LargeFault::OutOfMemory) => Err(AllocError),
+        Ok(_) => Ok(Reason::Other {
+            due: Due::Row { row: order },
+        }),
+    }
 }
 
-impl Table {
-    /// A table without a row.
-    pub(crate) fn new(alloc: Global, order: usize) -> Table {
-        Table {
-            order,
-            rows: 0,
-            entries: Vec::new(alloc),
-        }
+/// Appends the entries of the next row of a table of this order, or says why there are none. Want of memory is the only error.
+fn push_row<'a>(
+    entries: &mut Vec<u8>,
+    order: usize,
+    row: usize,
+    lines: &mut Lines<'a>,
+) -> Result<Option<Reason<'a>>, AllocError> {
+    let due = Due::Row { row };
+    let Some(mut line) = lines.next_line() else {
+        return Ok(Some(Reason::Ends { due }));
+    };
+    let numbers = match row_of(order, &mut line) {
+        Ok(numbers) => numbers,
+        Err(reason) => return Ok(Some(reason)),
+    };
+    for entry in numbers.first.as_slice() {
+        entries.push((*entry).min(255) as u8)?;
     }
+    Ok(None)
+}
 
-    /// Whether all rows were read.
-    pub(crate) fn is_whole(&self) -> bool {
-        self.rows >= self.order
+/// The entries of a row of a table of this order, or why they are none.
+fn row_of<'a>(order: usize, line: &mut Line<'a>) -> Result<Numbers<'a>, Reason<'a>> {
+    let numbers = Numbers::of(line)?;
+    let count = numbers.count;
+    if count != order {
+        return Err(Reason::Quandle(QuandleReason::RowLength { count, order }));
     }
-
-    /// Reads a row.
-    pub(crate) fn take(&mut self, line: &mut Line) {
-        self.rows = self.rows.saturating_add(1);
-        if let Ok(numbers) = Numbers::of(line) {
-            self.append(numbers.first.as_slice());
-        }
-    }
-
-    /// Appends entries, as far as there is room.
-    fn append(&mut self, row: &[u32]) {
-        for entry in row {
-            if self.entries.len() < MAX_ENTRIES {
-                let _kept = self.entries.push((*entry).min(255) as u8);
-            }
-        }
-    }
-
-    /// Why a row is bad.
-    pub(crate) fn reason<'a>(
-        &mut self,
-        alloc: Global,
-        line: &mut Line<'a>,
-        due: Due,
-    ) -> Reason<'a> {
-        let numbers = match Numbers::of(line) {
-            Ok(numbers) => numbers,
-            Err(reason) => return reason,
-        };
-        let order = self.order;
-        let count = numbers.count;
-        if count != order {
-            return Reason::Quandle(QuandleReason::RowLength { count, order });
-        }
-        if let Some(entry) = numbers.outside(order) {
-            return Reason::Quandle(QuandleReason::Entry { entry, order });
-        }
-        self.append(numbers.first.as_slice());
-        match LargeQuandle::new(alloc, order.min(255) as u8, self.entries.as_slice()) {
-            Err(LargeFault::Broken { fault }) => Reason::Quandle(QuandleReason::Law(fault)),
-            Ok(_) | Err(LargeFault::OutOfMemory) => Reason::Other { due },
-        }
+    match numbers.outside(order) {
+        Some(entry) => Err(Reason::Quandle(QuandleReason::Entry { entry, order })),
+        None => Ok(numbers),
     }
 }

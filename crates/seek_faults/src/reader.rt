@@ -1,230 +1,185 @@
-//! The input, line by line, up to the bad one.
+//! The input, item by item, up to the one that is bad.
+ghost use Rattle.std.specs.Prelude.{◌≤◌};
+ghost use Rattle.quandle_core.specs.declared.operations.TheConstants.{MAX_LARGE_ORDER};
 
 use crate::braids::braid_reason;
-use crate::grids::{crosses_reason, rings_reason};
+use crate::grids::{crosses_of, rings_reason};
 use crate::numbers::Numbers;
-use crate::quandles::{Table, quandle_reason, table_order};
+use crate::quandles::{quandle_line, table_reason};
 use crate::reason::{Due, Reason, Which};
-use crate::shape::{PROBLEM, Part, Shape, Then};
+use crate::shape::{PROBLEM, Part, Shape};
 use crate::shown::Shown;
-use std::alloc::Global;
-use text_items::MAX_QUANDLES;
+use quandle_core::LargeListed;
+use std::alloc::{AllocError, Global};
+use text_items::reading::{next_line, word};
+use text_items::{MAX_QUANDLES, TextFault, braid_item, grid_item, large_quandle_at};
 use text_lines::{Line, Lines};
 
 /// Why a line of a problem is bad, where it is the first bad one, or what is due where the text ends. Lines are counted from 1. Of a line
-/// that is not the first bad one, or of none, what is answered may be beside the point. Where memory is wanting, the law that a table breaks
-/// may not be named.
-pub fn reason_at<'a>(alloc: Global, bytes: &'a [u8], at: usize) -> Reason<'a> {
+/// that is not the first bad one, or of none, what is answered may be beside the point. Want of memory is the only error.
+pub fn reason_at<'a>(alloc: Global, bytes: &'a [u8], at: usize) -> Result<Reason<'a>, AllocError> {
     reason_in(alloc, PROBLEM, bytes, at, false)
 }
 
 /// Why a line of an input of any shape is bad. Of its further part no more is known than where it begins, and whether it is a limit
-/// that the line exceeds.
+/// that the line exceeds. Want of memory is the only error.
 pub fn reason_in<'a>(
     alloc: Global,
     shape: Shape,
     bytes: &'a [u8],
     at: usize,
     is_limit: bool,
-) -> Reason<'a> {
+) -> Result<Reason<'a>, AllocError> {
     let mut lines = Lines::new(bytes);
-    let mut reader = Reader::new(alloc, shape);
-    for _line in 0..u64::MAX {
-        let Some(mut line) = lines.next_line() else {
-            break;
-        };
-        if line.number() >= at {
-            return reader.reason(&mut line, is_limit);
-        }
-        reader.pass(&mut line);
+    if let Some(reason) = bad_diagram(alloc, shape, &mut lines)? {
+        return Ok(reason);
     }
-    Reason::Ends { due: reader.due() }
+    let mut quandles = 0;
+    for _quandle in 0..u64::MAX {
+        if !shape.then.takes_quandle(quandles) || !lines.begins(b"quandle") {
+            break;
+        }
+        let mut item = lines.again();
+        if quandles >= MAX_QUANDLES || !has_quandle(alloc, shape, &mut lines)? {
+            return quandle_reason(alloc, shape, quandles, &mut item);
+        }
+        quandles += 1;
+    }
+    let due = shape.due_behind(quandles);
+    Ok(reason_behind(due, at, is_limit, &mut lines))
 }
 
-/// What was read of an input.
-#[derive(Drop)]
-struct Reader {
+/// Why the first bad diagram is bad, if one is. Want of memory is the only error.
+fn bad_diagram<'a>(
     alloc: Global,
     shape: Shape,
-    /// How many whole diagrams.
-    diagrams: u8,
-    /// The Xs of the diagram whose Os are due.
-    crosses: Option<Numbers>,
-    /// The table whose next row is due.
-    table: Option<Table>,
-    /// How many quandles, with one whose table isn't whole.
-    quandles: usize,
-    /// The line with which the further part begins.
-    part: Option<usize>,
+    lines: &mut Lines<'a>,
+) -> Result<Option<Reason<'a>>, AllocError> {
+    for which in shape.diagrams() {
+        let mut item = lines.again();
+        if !has_diagram(alloc, shape.are_braids, lines)? {
+            let reason = diagram_reason(*which, shape.are_braids, &mut item);
+            return Ok(Some(reason));
+        }
+    }
+    Ok(None)
 }
 
-impl Reader {
-    /// Nothing was read.
-    fn new(alloc: Global, shape: Shape) -> Reader {
-        Reader {
-            alloc,
-            shape,
-            diagrams: 0,
-            crosses: None,
-            table: None,
-            quandles: 0,
-            part: None,
-        }
+/// Whether an item was read. Want of memory is the only error.
+fn was_read<T: Drop>(read: Result<T, TextFault>) -> Result<bool, AllocError> {
+    match read {
+        Ok(_) => Ok(true),
+        Err(TextFault::Malformed { .. } | TextFault::Limit { .. }) => Ok(false),
+        Err(TextFault::OutOfMemory) => Err(AllocError),
     }
+}
 
-    /// How many diagrams there are in the end.
-    fn most(&self) -> u8 {
-        if self.shape.are_two { 2 } else { 1 }
+/// Whether a diagram is next.
+fn has_diagram(alloc: Global, is_braid: bool, lines: &mut Lines) -> Result<bool, AllocError> {
+    if is_braid || lines.begins(b"braid") {
+        was_read(braid_item(alloc, lines))
+    } else {
+        was_read(grid_item(lines))
     }
+}
 
-    /// The diagram that is read.
-    fn which(&self) -> Which {
-        match (self.shape.are_two, self.diagrams) {
-            (false, _) => Which::Only,
-            (true, 0) => Which::First,
-            (true, _) => Which::Second,
-        }
+/// Whether a quandle is next.
+fn has_quandle(alloc: Global, shape: Shape, lines: &mut Lines) -> Result<bool, AllocError> {
+    was_read(quandle_item(alloc, shape.then.most_of_table(), lines))
+}
+
+/// A quandle, of an order of at most `most` where it is by a table.
+fn quandle_item(alloc: Global, most: usize, lines: &mut Lines) -> Result<LargeListed, TextFault>
+    requires { most ≤ MAX_LARGE_ORDER }
+{
+    let mut line = next_line(lines)?;
+    word(&mut line, b"quandle")?;
+    large_quandle_at(alloc, most, &mut line, lines)
+}
+
+/// Why no diagram is next.
+fn diagram_reason<'a>(which: Which, is_braid: bool, lines: &mut Lines<'a>) -> Reason<'a> {
+    let due = Due::Diagram { which, is_braid };
+    let Some(mut line) = lines.next_line() else {
+        return Reason::Ends { due };
+    };
+    let Some(token) = line.next_token() else {
+        return Reason::Other { due };
+    };
+    if token == b"braid".as_slice() {
+        braid_reason(&mut line, due)
+    } else if token == b"x".as_slice() && !is_braid {
+        grid_reason(which, &mut line, lines)
+    } else {
+        begins(due, token)
     }
+}
 
-    /// What is due next.
-    fn due(&self) -> Due {
-        let which = self.which();
-        if let Some(table) = &self.table {
-            return Due::Row { row: table.rows };
-        }
-        if self.crosses.is_some() {
-            Due::Rings { which }
-        } else if self.diagrams < self.most() {
-            Due::Diagram {
-                which,
-                is_braid: self.shape.are_braids,
-            }
-        } else {
-            self.due_behind()
-        }
+/// Why a line of Xs, from behind its first word, or the next line is bad.
+fn grid_reason<'a>(which: Which, line: &mut Line<'a>, lines: &mut Lines<'a>) -> Reason<'a> {
+    match crosses_of(line) {
+        Ok(crosses) => below_reason(&crosses, Due::Rings { which }, lines),
+        Err(reason) => reason,
     }
+}
 
-    /// What is due behind the diagrams.
-    fn due_behind(&self) -> Due {
-        let are_two = self.shape.are_two;
-        match (self.shape.then.part(self.quandles), self.part) {
-            (Some(part), Some(line)) => Due::Behind { part, line },
-            (Some(part), None) => Due::Begin { part },
-            (None, _) => match self.shape.then {
-                Then::Quandles | Then::QuandlesAnd(_) => Due::Quandles { are_two },
-                Then::QuandleAnd(_) => Due::Quandle,
-                _ => Due::Nothing { are_two },
-            },
-        }
+/// Why no line of Os is next, below these Xs.
+fn below_reason<'a>(crosses: &Numbers, due: Due, lines: &mut Lines<'a>) -> Reason<'a> {
+    let Some(mut line) = lines.next_line() else {
+        return Reason::Ends { due };
+    };
+    match line.next_token() {
+        Some(token) if token == b"o".as_slice() => rings_reason(crosses, &mut line, due),
+        Some(token) => begins(due, token),
+        None => Reason::Other { due },
     }
+}
 
-    /// Reads a line that is good.
-    fn pass(&mut self, line: &mut Line) {
-        match self.due() {
-            Due::Diagram { .. } => self.begin_diagram(line),
-            Due::Rings { .. } => self.end_diagram(),
-            Due::Row { .. } => self.take_row(line),
-            Due::Quandles { .. } | Due::Quandle => self.begin_quandle(line),
-            Due::Begin { .. } => self.begin_part(line),
-            Due::Behind { .. } | Due::Nothing { .. } => {}
-        }
+/// Why no quandle is next, behind so many quandles. Want of memory is the only error.
+fn quandle_reason<'a>(
+    alloc: Global,
+    shape: Shape,
+    quandles: usize,
+    lines: &mut Lines<'a>,
+) -> Result<Reason<'a>, AllocError> {
+    let due = shape.due_behind(quandles);
+    let Some(mut line) = lines.next_line() else {
+        return Ok(Reason::Ends { due });
+    };
+    let _word = line.next_token();
+    let most = shape.then.most_of_table();
+    match quandle_line(&mut line, quandles >= MAX_QUANDLES, most) {
+        Ok(Some(order)) => table_reason(alloc, order, lines),
+        Ok(None) => Ok(Reason::Other { due }),
+        Err(reason) => Ok(reason),
     }
+}
 
-    /// Reads the first line of a part, or a quandle in its place.
-    fn begin_part(&mut self, line: &mut Line) {
-        if self.shape.then.takes_quandle(self.quandles) && line.starts(b"quandle") {
-            self.begin_quandle(line);
-        } else {
-            self.part = Some(line.number());
+/// Why a line behind the diagrams and the quandles is bad.
+fn reason_behind<'a>(due: Due, at: usize, is_limit: bool, lines: &mut Lines<'a>) -> Reason<'a> {
+    let Some(mut line) = lines.next_line() else {
+        return Reason::Ends { due };
+    };
+    match (due, line.next_token()) {
+        (Due::Begin { part }, _) if line.number() < at => {
+            let ends = lines.ending() <= at;
+            further_reason(part, line.number(), ends, is_limit)
         }
+        (Due::Begin { part }, Some(token)) if part.begins(token) => {
+            reason_of_part(part, due, is_limit)
+        }
+        (_, Some(token)) => begins(due, token),
+        (_, None) => Reason::Other { due },
     }
+}
 
-    /// Reads a row of a table.
-    fn take_row(&mut self, line: &mut Line) {
-        let mut is_whole = true;
-        if let Some(table) = &mut self.table {
-            table.take(line);
-            is_whole = table.is_whole();
-        }
-        if is_whole {
-            self.table = None;
-        }
-    }
-
-    /// Reads the first line of a diagram.
-    fn begin_diagram(&mut self, line: &mut Line) {
-        if line.starts(b"braid") {
-            self.end_diagram();
-        } else {
-            let _word = line.next_token();
-            self.crosses = Numbers::of(line).ok();
-        }
-    }
-
-    /// A diagram is whole.
-    fn end_diagram(&mut self) {
-        self.diagrams = self.diagrams.saturating_add(1);
-        self.crosses = None;
-    }
-
-    /// Reads the line of a quandle.
-    fn begin_quandle(&mut self, line: &mut Line) {
-        self.quandles = self.quandles.saturating_add(1);
-        let _word = line.next_token();
-        self.table = match table_order(line) {
-            Some(order) => Some(Table::new(self.alloc, order)),
-            None => None,
-        };
-    }
-
-    /// Why a line is bad.
-    fn reason<'a>(&mut self, line: &mut Line<'a>, is_limit: bool) -> Reason<'a> {
-        let due = self.due();
-        let alloc = self.alloc;
-        if let Some(table) = &mut self.table {
-            return table.reason(alloc, line, due);
-        }
-        if let Due::Behind { part, .. } = due {
-            return reason_of_part(part, due, is_limit);
-        }
-        let Some(token) = line.next_token() else {
-            return Reason::Other { due };
-        };
-        match &self.crosses {
-            Some(crosses) if token == b"o".as_slice() => rings_reason(crosses, line, due),
-            Some(_) => begins(due, token),
-            None if self.diagrams < self.most() => self.diagram_reason(token, line, due),
-            None => self.reason_behind(token, line, due, is_limit),
-        }
-    }
-
-    /// Why the first line of a diagram is bad, from behind its first word.
-    fn diagram_reason<'a>(&self, token: &'a [u8], line: &mut Line<'a>, due: Due) -> Reason<'a> {
-        if token == b"x".as_slice() && !self.shape.are_braids {
-            crosses_reason(line, due)
-        } else if token == b"braid".as_slice() {
-            braid_reason(line, due)
-        } else {
-            begins(due, token)
-        }
-    }
-
-    /// Why a line behind the diagrams is bad, from behind its first word.
-    fn reason_behind<'a>(
-        &self,
-        token: &'a [u8],
-        line: &mut Line<'a>,
-        due: Due,
-        is_limit: bool,
-    ) -> Reason<'a> {
-        if token == b"quandle".as_slice() && self.shape.then.takes_quandle(self.quandles) {
-            let most = self.shape.then.most_of_table();
-            return quandle_reason(line, self.quandles >= MAX_QUANDLES, most, due);
-        }
-        match due {
-            Due::Begin { part } if part.begins(token) => reason_of_part(part, due, is_limit),
-            _ => begins(due, token),
-        }
+/// Why a line of a part that began in an earlier one is bad, or that the text ends there.
+fn further_reason<'a>(part: Part, line: usize, ends: bool, is_limit: bool) -> Reason<'a> {
+    let due = Due::Behind { part, line };
+    if ends {
+        Reason::Ends { due }
+    } else {
+        reason_of_part(part, due, is_limit)
     }
 }
 

@@ -56,7 +56,7 @@ pub enum Reason<'a> {
     Quandle(QuandleReason<'a>),
     /// A limit of a part is exceeded.
     Limit { part: Part },
-    /// It isn't what is due, and no more is known: of a line of a part, of one that isn't the first bad one, or where memory was wanting.
+    /// It isn't what is due, and no more is known: of a line of a part, or of one that isn't the first bad one.
     Other { due: Due },
 }
 

@@ -1,9 +1,13 @@
 //! What inputs are made of.
+ghost use Rattle.std.specs.Prelude.{◌≤◌};
+ghost use Rattle.quandle_core.specs.declared.operations.TheConstants.{MAX_LARGE_ORDER};
 
+use crate::reason::{Due, Which};
 use colour_list::MAX_COLOURINGS;
 use grid_core::MAX_SIZE;
 use quandle_core::{MAX_LARGE_ORDER, MAX_ORDER};
 use std::fmt;
+use text_items::MAX_QUANDLES;
 use text_lines::MAX_DIGITS;
 
 /// The greatest number of a move or a step, and the greatest modulus.
@@ -54,6 +58,28 @@ pub const PROBLEM: Shape = Shape {
     then: Then::Quandles,
 };
 
+impl Shape {
+    /// The diagrams, in their order.
+    pub(crate) fn diagrams(self) -> &'static [Which] {
+        if self.are_two {
+            &[Which::First, Which::Second]
+        } else {
+            &[Which::Only]
+        }
+    }
+
+    /// What is due behind the diagrams and so many quandles.
+    pub(crate) fn due_behind(self, quandles: usize) -> Due {
+        let are_two = self.are_two;
+        match (self.then, self.then.part(quandles)) {
+            (_, Some(part)) => Due::Begin { part },
+            (Then::Quandles | Then::QuandlesAnd(_), None) => Due::Quandles { are_two },
+            (Then::QuandleAnd(_), None) => Due::Quandle,
+            (Then::Nothing | Then::Only(_), None) => Due::Nothing { are_two },
+        }
+    }
+}
+
 impl Then {
     /// Whether a quandle may stand behind the diagrams and so many quandles.
     pub(crate) fn takes_quandle(self, quandles: usize) -> bool {
@@ -65,7 +91,7 @@ impl Then {
     }
 
     /// The part that may begin behind so many quandles.
-    pub(crate) fn part(self, quandles: usize) -> Option<Part> {
+    fn part(self, quandles: usize) -> Option<Part> {
         match self {
             Then::QuandlesAnd(Part::LargeCocycle) | Then::QuandleAnd(_) if quandles < 1 => None,
             Then::QuandlesAnd(part) | Then::QuandleAnd(part) | Then::Only(part) => Some(part),
@@ -74,7 +100,9 @@ impl Then {
     }
 
     /// The greatest order of a quandle by its table.
-    pub(crate) fn most_of_table(self) -> usize {
+    pub(crate) fn most_of_table(self) -> usize
+        ensures { result ≤ MAX_LARGE_ORDER }
+    {
         match self {
             Then::QuandlesAnd(Part::LargeCocycle) => MAX_LARGE_ORDER,
             _ => MAX_ORDER,
@@ -122,10 +150,16 @@ impl fmt::Display for Limits {
                 "a number of a step is at most {MAX_BYTE}, a letter at most {MAX_LETTER}, "
             ),
             Part::Cocycle => write!(f, "the modulus is at most {MAX_BYTE}, "),
-            Part::LargeCocycle => write!(
-                f,
-                "the modulus is at most {MAX_BYTE}, a quandle with `shadow` has at most {MAX_ORDER} elements, "
-            ),
+            Part::LargeCocycle => {
+                write!(
+                    f,
+                    "an input has at most {MAX_QUANDLES} quandles, a quandle at most {MAX_ORDER} elements, "
+                )?;
+                write!(
+                    f,
+                    "by a table without `shadow` at most {MAX_LARGE_ORDER}, the modulus is at most {MAX_BYTE}, "
+                )
+            }
         }?;
         write!(f, "and any number has at most {MAX_DIGITS} digits")
     }

@@ -6,7 +6,7 @@ ghost use Rattle.seek_parts.specs.Clash.{IsReadFile, IsUnreadFile, Clashes, IsOu
 use crate::texts::Texts;
 use seek_words::{Asked, Diagrams, Given};
 
-/// A path that is read, at which the file stands that is written, under whichever names; None without one. Devices and pipes may be both.
+/// A path that is read, at which the file is that is written, under whichever names; None without one. Devices and pipes may be both.
 pub fn read_and_written<'a, F: Texts>(files: &F, asked: &Asked<'a>) -> Option<&'a str>
     ensures clashes { IfSome result (λ name. Clashes (F.named files.now) asked.now) }
     ensures apart { IfNone result (IsOutUnread (F.named files.now) asked.now) }
@@ -20,7 +20,7 @@ pub fn read_and_written<'a, F: Texts>(files: &F, asked: &Asked<'a>) -> Option<&'
     }
 }
 
-/// A path that is read, at which this file stands; None without one.
+/// A path that is read, at which this file is; None without one.
 fn read_at<'a, F: Texts>(files: &F, asked: &Asked<'a>, file: (u64, u64)) -> Option<&'a str>
     ensures read { IfSome result (λ name. IsReadFile (F.named files.now) file asked.now) }
     ensures none { IfNone result (IsUnreadFile (F.named files.now) file asked.now) }
@@ -48,7 +48,7 @@ fn diagram_at<'a, F: Texts>(files: &F, diagrams: Diagrams<'a>, file: (u64, u64))
     }
 }
 
-/// The path of what is given, if this file stands there.
+/// The path of what is given, if this file is there.
 fn given_at<'a, F: Texts>(files: &F, given: Given<'a>, file: (u64, u64)) -> Option<&'a str>
     ensures read { IfSome result (λ name. IsGivenAs (F.named files.now) file given.entry) }
     ensures none { IfNone result (IsNotGivenAs (F.named files.now) file given.entry) }
@@ -59,7 +59,7 @@ fn given_at<'a, F: Texts>(files: &F, given: Given<'a>, file: (u64, u64)) -> Opti
     }
 }
 
-/// The first of these paths at which this file stands; None without one.
+/// The first of these paths at which this file is; None without one.
 fn path_at<'a, F: Texts>(files: &F, paths: &[&'a str], file: (u64, u64)) -> Option<&'a str>
     ensures read { IfSome result (λ name. IsAmongPaths (F.named files.now) file paths.now) }
     ensures none { IfNone result (IsAtNone (F.named files.now) file paths.now) }
@@ -72,7 +72,7 @@ fn path_at<'a, F: Texts>(files: &F, paths: &[&'a str], file: (u64, u64)) -> Opti
     None
 }
 
-/// Whether this file stands at a path.
+/// Whether this file is at a path.
 fn stands_at<F: Texts>(files: &F, path: &str, file: (u64, u64)) -> bool
     ensures yes { result ≡ true → IsFileAt (F.named files.now) file path.now }
     ensures none { result ≡ false → IsElsewhere (F.named files.now) file path.now }

@@ -16,17 +16,17 @@ use std::io::Write;
 use std::os::unix::fs::PermissionsExt;
 use std::{fs, io, process};
 
-/// How many bytes of a file's name leave room for more behind it: a name has 255, and a process's number with what stands round it takes 16.
+/// How many bytes of a file's name leave room for more after it: a name has 255, and a process's number with what is round it takes 16.
 const MAX_NAME: usize = 239;
 
-/// A path, and a new file beside it, as `NAME.PROCESS.part`, or `.PROCESS.part` where NAME is too long for that. It tells a contract
+/// A path, and a new file beside it, as `NAME.PROCESS.part`, or `.PROCESS.part` where NAME is too long for that. A contract sees
 /// nothing of the bytes on disk.
 #[derive(Drop)]
 struct DiskPlace<'a> {
     rt: &'a HostRuntime,
     path: &'a str,
     beside: String,
-    /// The mode of the file that stands at the path, if one does: the new one gets it too.
+    /// The mode of the file at the path, if there is one; the new one gets it too.
     mode: Option<u32>,
     file: Option<File>,
     is_stored: bool,
@@ -123,7 +123,7 @@ impl<'a> Place for DiskPlace<'a> {
     }
 }
 
-/// A device or a pipe, opened to be written where it is, and its path: the system says that what stands there is no file with bytes of its own.
+/// A device or a pipe, opened to be written where it is, and its path: the system says that what is there is no file with bytes of its own.
 #[derive(Drop)]
 struct Special {
     path: String,
@@ -132,7 +132,7 @@ struct Special {
     ghost is_special: { IsFile kind → ⊥ },
 }
 
-/// The paths of the system, of which it tells a contract nothing. A file is put whole, from a new one beside it; a device or a pipe is
+/// The paths of the system, of which a contract sees nothing. A file is put whole, from a new one beside it; a device or a pipe is
 /// written where it is.
 #[derive(Drop)]
 pub struct DiskPlaces<'r> {
@@ -184,7 +184,7 @@ impl<'r> Places for DiskPlaces<'r> {
     }
 }
 
-/// The device or the pipe at a path, opened to be written where it is; None where a file with bytes of its own stands there, or nothing. An
+/// The device or the pipe at a path, opened to be written where it is; None where there is a file with bytes of its own, or nothing. An
 /// error comes where the system refuses the path, as one with too long a name.
 fn open_special(rt: &HostRuntime, path: &str) -> io::Result<Option<Special>>
     ensures { IfOk result (λ found. IfSome found (λ special. string_bytes special.path ≡ path.now)) }

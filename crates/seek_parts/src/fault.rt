@@ -38,7 +38,7 @@ pub enum PartFault<'a> {
         name: &'a str,
         refusal: TextRefusal,
     },
-    /// Memory was wanting.
+    /// Memory ran out.
     OutOfMemory,
 }
 
@@ -111,7 +111,7 @@ fn write_code<W: fmt::Write>(
     }
 }
 
-/// Writes that memory was wanting.
+/// Writes that memory ran out.
 fn write_memory<W: fmt::Write>(f: &mut fmt::Formatter<W>) -> fmt::Result {
     write!(f, "there is not enough memory")
 }

@@ -1,5 +1,5 @@
 //! The parts of an input of `seek`, read as the words give them: diagrams and quandles from files, standard input, braids and codes.
-//! The parts stand in the order of what is given, and each has the bytes that are told of it; else the answer says what went wrong.
+//! The parts are in the order of what is given, and each has the bytes that `Texts` reports; else the answer says what went wrong.
 //! A file that is written comes to its place whole or not at all, and the place is as it was where a step fails.
 #![tactic(auto)]
 

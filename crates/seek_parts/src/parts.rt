@@ -12,7 +12,7 @@ use seek_words::{Asked, Diagrams, Given};
 use std::alloc::Global;
 use std::marker::Model;
 
-/// The parts of an input, in the order in which they stand in it, and what each is called in messages.
+/// The parts of an input, in the order in which they come in it, and what each is called in messages.
 #[derive(Drop)]
 pub struct Parts<'a> {
     texts: Vec<Items<u8>>,
@@ -31,8 +31,8 @@ impl<'a> Model for Parts<'a> {
 }
 
 impl<'a> Parts<'a> {
-    /// Reads all that the words name: a part for each diagram, in their order, and behind them one for each file of quandles. Each of two
-    /// diagrams is one and no more, by the first words of its lines. Else the answer is why one of the parts can't be had.
+    /// Reads all that the words name: a part for each diagram, in their order, and after them one for each file of quandles. Each of two
+    /// diagrams is one and no more, by the first words of its lines. If one of the parts can't be had, the error says why.
     pub fn read<F: Texts>(
         alloc: Global,
         files: &F,

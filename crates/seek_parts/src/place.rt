@@ -7,10 +7,10 @@ use std::io;
 
 /// A place for a file, and a file beside it, which is made, written, stored, and then put in the place. Each step may fail.
 pub trait Place {
-    /// The bytes that stand in the place, or `None` where no file does, or it isn't told.
+    /// The bytes of the file in the place, or `None` without one, or where a contract can't know.
     ghost standing: { Self → Option (List ℕ) };
 
-    /// The bytes of the file beside, or `None` where it isn't told.
+    /// The bytes of the file beside, or `None` where a contract can't know.
     ghost beside: { Self → Option (List ℕ) };
 
     /// All bytes of the file beside are stored, so that they outlive a stop of the system.
@@ -27,7 +27,7 @@ pub trait Place {
         ensures failed { OnErr result (beside self.new ≡ beside self.old) }
         ensures unmade { OnErr result (is_made self.new ≡ is_made self.old) };
 
-    /// Appends the first bytes of a piece to the file beside, and answers how many they are.
+    /// Appends the first bytes of a piece to the file beside, and returns how many they are.
     fn write(&mut self, piece: &[u8]) -> io::Result<usize>
         ensures apart { standing self.new ≡ standing self.old }
         ensures within { IfOk result (λ n. n ≤ length piece.now) }

@@ -6,14 +6,14 @@ use std::io;
 
 /// The places of all paths. Each step may fail.
 pub trait Places {
-    /// The bytes that stand at each path, or `None` where they aren't told.
+    /// The bytes of the file at each path, or `None` where a contract can't know them.
     ghost standing: { Self → Option Standing };
 
     /// Tries whether a file can be put at a path.
     fn try_path(&mut self, path: &str) -> io::Result<()>
         ensures { standing self.new ≡ standing self.old };
 
-    /// Puts a file with this text at a path, whole. An error leaves what stands at each.
+    /// Puts a file with this text at a path, whole. An error leaves what is at each.
     fn put(&mut self, path: &str, text: &[u8]) -> io::Result<()>
         ensures whole { OnOk result (PutsAt (standing self.old) (standing self.new) path.now text.now) }
         ensures none { OnErr result (standing self.new ≡ standing self.old) };

@@ -8,7 +8,7 @@ use knot_ports::{Failed, Sink};
 use std::alloc::Global;
 use std::marker::Model;
 
-/// Holds all that it is given, and fails only where memory is wanting for it. A contract sees it as its bytes and its count of faults.
+/// Holds all that it is given, and fails only if memory runs out. A contract sees it as its bytes and its count of faults.
 #[derive(Drop)]
 pub struct TextSink {
     bytes: Vec<u8>,

@@ -13,11 +13,11 @@ use std::os::unix::fs::MetadataExt;
 
 /// Gives the texts of files by their paths.
 pub trait Texts {
-    /// The bytes of the file of a path, or `None` where they aren't told.
+    /// The bytes of the file of a path, or `None` where a contract can't know them.
     ghost told: { Self → List ℕ → Option (List ℕ) };
 
     /// All bytes of the file of a path, `MAX_INPUT` at most, which is called by this name where it can't be read. Else it was not read, is
-    /// too long, or memory was wanting.
+    /// too long, or memory ran out.
     fn text<'a>(
         &self,
         alloc: Global,
@@ -28,16 +28,16 @@ pub trait Texts {
         ensures within { IfOk result (λ v. vec_len v ≤ MAX_INPUT) }
         ensures fault { IfErr result (λ f. IsUnread (told self.now path.entry.now) f) };
 
-    /// The file that stands at a path, or `None` where that isn't told.
+    /// The file at a path, or `None` where a contract can't know it.
     ghost named: { Self → FilesAt };
 
-    /// The file that stands at a path, by its device and its number there. None where none does that has bytes of its own: nothing stands
-    /// there, or a device or a pipe does, or the system doesn't say.
+    /// The file at a path, by its device and its number there. None where there is no file with bytes of its own: nothing
+    /// is there, or a device or a pipe is, or the system doesn't say.
     fn file_at(&self, path: &str) -> Option<(u64, u64)>
         ensures { IfSome (named self.now path.now) (λ file. result ≡ file) };
 }
 
-/// The system's files, of which it tells a contract nothing; `-` is standard input.
+/// The system's files, of which a contract sees nothing; `-` is standard input.
 #[derive(Clone, Copy)]
 pub struct SystemTexts<'r> {
     rt: &'r HostRuntime,
@@ -89,7 +89,7 @@ fn system_path(path: &str) -> &str {
     }
 }
 
-/// All bytes that a reader gives, `MAX_INPUT` at most: those that remain in it, where std tells them.
+/// All bytes that a reader gives, `MAX_INPUT` at most: those that remain in it, where std reports them.
 fn read_whole<'a, R: Read + Drop>(
     alloc: Global,
     name: &'a str,
@@ -99,7 +99,7 @@ fn read_whole<'a, R: Read + Drop>(
     ensures within { IfOk result (λ v. vec_len v ≤ MAX_INPUT) }
     ensures fault { IfErr result (λ f. IsUnread (R.remaining reader) f) }
 {
-    let mut source = StdSource::new(alloc, reader, 0);
+    let mut source = StdSource::new(reader);
     match read_all(alloc, &mut source, MAX_INPUT) {
         Ok(bytes) => Ok(bytes),
         Err(ReadEnd::TooLong) => Err(PartFault::Long { name }),
