@@ -5,8 +5,6 @@
 mod action;
 mod braid;
 mod fault;
-#[cfg(test)]
-mod tests;
 mod tuples;
 
 pub use action::{act, act_letter, act_letters};

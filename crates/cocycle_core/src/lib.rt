@@ -12,8 +12,6 @@ mod large;
 pub mod laws;
 mod shadow_cocycle;
 mod shadow_fault;
-#[cfg(test)]
-mod tests;
 mod values;
 
 pub use cocycle::Cocycle;

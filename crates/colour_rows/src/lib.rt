@@ -4,11 +4,7 @@
 
 mod colouring;
 mod equation;
-#[cfg(test)]
-mod plain;
 mod spans;
-#[cfg(test)]
-mod tests;
 mod walking;
 
 pub use colouring::{Colouring, is_colouring};

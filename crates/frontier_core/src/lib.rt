@@ -6,8 +6,6 @@ mod frontier;
 mod laws;
 mod queue;
 mod sizes;
-#[cfg(test)]
-mod tests;
 
 pub use frontier::Frontier;
 pub use laws::{comes_out_once, same_size_in_order};

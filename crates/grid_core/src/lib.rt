@@ -8,8 +8,6 @@ mod grid;
 mod mark;
 mod parts;
 mod span;
-#[cfg(test)]
-mod tests;
 
 pub use fault::{GridFault, is_repeated};
 pub use grid::{Grid, MAX_SIZE, Rows};

@@ -9,8 +9,6 @@ mod shift;
 mod slide;
 mod stabilisation;
 mod step;
-#[cfg(test)]
-mod tests;
 mod tidy;
 mod undoing;
 

@@ -95,21 +95,3 @@ impl Sink for QuietSink {
         Ok(piece.len())
     }
 }
-
-#[cfg(test)]
-mod tests {
-    use super::*;
-    use crate::{give_all, read_all};
-    use std::test::Fail;
-
-    const TEXT: &[u8] = b"abcdefghij";
-
-    #[test]
-    fn quiet_ports_pass_all_bytes(rt: HostRuntime) -> Result<(), Fail> {
-        let mut source = QuietSource::new(Vec::from_slice(rt.alloc(), TEXT)?);
-        let bytes = read_all(rt.alloc(), &mut source, 10)?;
-        assert_eq!(rt; bytes.as_slice(), TEXT);
-        assert_eq!(rt; give_all(&mut QuietSink::new(), &bytes), Ok(()));
-        Ok(())
-    }
-}

@@ -7,11 +7,7 @@ mod eight;
 mod exchange;
 mod laws;
 mod mask;
-#[cfg(test)]
-mod plain;
 mod sixteen;
-#[cfg(test)]
-mod tests;
 
 pub use covering::covering_mask;
 pub use exchange::exchange_mask;

@@ -3,8 +3,6 @@
 
 mod items;
 mod out_of_memory;
-#[cfg(test)]
-mod tests;
 
 pub use items::Items;
 pub use out_of_memory::OutOfMemory;

@@ -10,8 +10,6 @@ mod names;
 mod operations;
 mod quandle;
 mod tables;
-#[cfg(test)]
-mod tests;
 
 pub use fault::QuandleFault;
 pub use large::{LargeFault, LargeQuandle};

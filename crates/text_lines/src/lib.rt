@@ -6,8 +6,6 @@ mod cutting;
 mod line;
 mod lines;
 mod numbers;
-#[cfg(test)]
-mod tests;
 mod writing;
 
 pub use line::Line;

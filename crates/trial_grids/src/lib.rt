@@ -1,4 +1,4 @@
-//! Tests of meeting_walks and torus_grids.
+//! Tests of grid_moves, meeting_walks and torus_grids.
 #![tactic(auto)]
 
 #[cfg(test)]

@@ -1,4 +1,5 @@
 //! A file a crate.
+mod moves;
 mod shorter;
 mod torus;
 mod walks;

@@ -1,4 +1,4 @@
-//! Tests of whole calls: with a fault at each call of the source and the sink, what is told of faults in the middle, and how many workers are at a
+//! Tests of whole calls: with a fault at each call of the source and the sink, what is said of faults in the middle, and how many workers are at a
 //! book at once; and of functions that no program calls.
 #![tactic(auto)]
 

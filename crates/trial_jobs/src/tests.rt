@@ -2,6 +2,7 @@
 mod faults;
 mod gate;
 mod lines;
+mod std_ports;
 mod told;
 mod uncalled;
 mod workers;
@@ -34,6 +35,7 @@ fn call<R: Threads + Wait + Sync>(
         source: MemSource::new(Vec::from_slice(alloc, input)?, 4096, Vec::new(alloc)),
         sink: MemSink::new(alloc, 4096, 4096, Vec::new(alloc))?,
         kept: kept.take(),
+        input: Vec::new(alloc),
     };
     let status = run(rt, alloc, words.as_slice(), &mut ports, gate);
     *kept = ports.kept;

@@ -16,7 +16,7 @@ fn move_at_random(torus: &mut Torus, generator: &mut Pcg32) -> bool {
     }
 }
 
-/// Puts a form behind others, but where it is the last of them: shifts lead to translates.
+/// Puts a form after others, but where it is the last of them: shifts lead to translates.
 fn push(path: &mut Vec<Form>, form: Form) -> Result<(), Fail> {
     if path.as_slice().last().copied() != Some(form) {
         path.push(form)?;

@@ -1,4 +1,4 @@
-//! Searches that find nothing, by what a watch is told, and the workers of a plan for none.
+//! Searches that find nothing, by what a watch sees, and the workers of a plan for none.
 
 use grid_core::{Grid, MAX_SIZE};
 use grid_moves::Move;

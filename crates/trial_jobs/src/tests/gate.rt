@@ -6,7 +6,7 @@ use std::thread;
 /// How many turns a pass waits at most.
 const TURNS: u64 = 1_000_000_000;
 
-/// A gate at which so many passes meet, behind so many that don't wait: each of them but the last waits until that has begun,
+/// A gate at which so many passes meet, after so many that don't wait: each of them but the last waits until that has begun,
 /// and notes whether it came. It counts the passes of worker 0 and of worker 1.
 #[derive(Drop)]
 pub(crate) struct Meeting {

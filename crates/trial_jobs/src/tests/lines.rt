@@ -35,6 +35,7 @@ pub(crate) fn run_line(
         source: MemSource::new(Vec::from_slice(alloc, input)?, 4, reading),
         sink: MemSink::new(alloc, 3, outside.room, writing)?,
         kept: None,
+        input: Vec::new(alloc),
     };
     let status = run_alone(alloc, words.as_slice(), &mut ports);
     let written = Vec::from_slice(alloc, ports.sink.bytes())?;

@@ -1,4 +1,4 @@
-//! What is told of streams that fail in the middle.
+//! What is said of streams that fail in the middle, and of a bad line, for which the input must be kept.
 use crate::tests::lines::words_of;
 use knot_jobs::{Ports, Status, run_alone};
 use knot_ports::{StdSink, StdSource};
@@ -8,7 +8,7 @@ use std::io;
 use std::io::{Read, Write};
 use std::test::Fail;
 
-/// A reader of bytes, which fails behind them if it is to.
+/// A reader of bytes, which fails after them if it is to.
 #[derive(Drop)]
 struct Bytes<'a> {
     left: &'a [u8],
@@ -55,17 +55,18 @@ fn code(alloc: Global, ports: &mut Ports<StdSource<Bytes>, StdSink<Room>>) -> Re
     Ok(run_alone(alloc, words.as_slice(), ports))
 }
 
-/// What is told of a call with the words of a line that ended with a status; nothing, where nothing is.
-fn said(
+/// What is said of a call with the words of a line that ended with a status; nothing, where nothing is.
+fn said<'a>(
     rt: &HostRuntime,
     line: &str,
     status: Status,
-    source: &StdSource<Bytes>,
-    sink: &StdSink<Room>,
+    source: &'a StdSource<Bytes>,
+    input: &'a [u8],
+    sink: &'a StdSink<Room>,
 ) -> Result<String, Fail> {
     let alloc = rt.alloc();
     let words = words_of(alloc, line)?;
-    match sentence_of(rt, alloc, words.as_slice(), status, source, sink) {
+    match sentence_of(rt, alloc, words.as_slice(), status, source, input, sink) {
         Some(sentence) => Ok(format!(in alloc; "{sentence}")?),
         None => Ok(String::new(alloc)),
     }
@@ -81,12 +82,20 @@ fn ends(
 ) -> Result<bool, Fail> {
     let alloc = rt.alloc();
     let mut ports = Ports {
-        source: StdSource::new(alloc, reader, 100),
+        source: StdSource::new(reader),
         sink: StdSink::new(Room { left: room }),
         kept: None,
+        input: Vec::new(alloc),
     };
     let ended = code(alloc, &mut ports)?;
-    let said = said(rt, "knot code", ended, &ports.source, &ports.sink)?;
+    let said = said(
+        rt,
+        "knot code",
+        ended,
+        &ports.source,
+        ports.input.as_slice(),
+        &ports.sink,
+    )?;
     Ok(ended == status && said.as_str().starts_with(words))
 }
 
@@ -104,5 +113,16 @@ fn faults_of_streams_are_told(rt: HostRuntime) -> Result<(), Fail> {
     };
     let words = "standard output can't be written: ";
     assert!(rt; ends(&rt, reader, 10, Status::WriteFault, words)?);
+    Ok(())
+}
+
+#[test]
+fn a_bad_line_is_told_from_the_input_that_is_left(rt: HostRuntime) -> Result<(), Fail> {
+    let reader = Bytes {
+        left: b"x 0 1\no 1 7\n",
+        fails: false,
+    };
+    let words = "line 2: 7 is not a row of a diagram of 2 columns";
+    assert!(rt; ends(&rt, reader, 100, Status::Malformed, words)?);
     Ok(())
 }

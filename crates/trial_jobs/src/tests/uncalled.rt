@@ -61,7 +61,7 @@ fn a_loop_has_the_colour_of_its_columns(rt: HostRuntime) -> Result<(), Fail> {
     Ok(())
 }
 
-/// Whether two grids are told apart without a block.
+/// Whether two grids are distinguished without a block.
 fn are_told_apart(alloc: Global, first: Rows, second: Rows) -> Result<bool, Fail> {
     let first = grid_of(first)?;
     let second = grid_of(second)?;

@@ -90,7 +90,7 @@ const OLD: &[u8] = b"old";
 
 const TEXT: &[u8] = b"abcdefgh";
 
-/// What stands in the place after TEXT is put there, where this call fails; whether that is said to be done, and whether a file is left
+/// What is in the place after TEXT is put there, where this call fails; whether that is said to be done, and whether a file is left
 /// beside.
 fn after_failure(alloc: Global, failing: usize) -> Result<(Vec<u8>, bool, bool), Fail> {
     let mut port = MemPlace {
@@ -115,7 +115,7 @@ fn after_failure(alloc: Global, failing: usize) -> Result<(Vec<u8>, bool, bool),
     }
 }
 
-/// The calls are: create and remove of the try, create, three writes, store, rename. Where one of them fails, the old bytes stand; where
+/// The calls are: create and remove of the try, create, three writes, store, rename. Where one of them fails, the old bytes stay; where
 /// none does, the new ones do. A file is left beside only where the removal of the try failed.
 #[test]
 fn a_file_is_put_whole_or_not_at_all(rt: HostRuntime) -> Result<(), Fail> {
