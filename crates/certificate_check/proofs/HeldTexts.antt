@@ -48,7 +48,8 @@ colourings_few t d seeds quandle grid settled =
     let plan = plan_there d seeds grid settled in
     let count = leaves_count t d plan.0 quandle grid plan.1.0 in
     let most = length_leaves t d plan.0 (replicate MAX_SIZE 0) in
-    let up : t.order ^ seeds_in plan.0 ≤ t.order ^ length seeds = pow-le-pow_right {n = t.order} quandle.least {i = seeds_in plan.0} {j = length seeds} plan.1.1 in
+    let up : t.order ^ seeds_in plan.0 ≤ t.order ^ length seeds =
+    pow-le-pow_right {n = t.order} quandle.least {i = seeds_in plan.0} {j = length seeds} plan.1.1 in
     omega (arith, count, most, up)
 
 -- the numbers are as many as are due, and none is over the number of what is counted

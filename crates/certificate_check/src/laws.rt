@@ -20,7 +20,7 @@ ghost use Rattle.certificate_check.specs.Decision.{IsFindingOf, IsByWrittenBlock
 use verdict_laws::decisions::a_verdict_that_holds_is_a_decision;
 
 /// What holds of the diagrams of a problem and has a text, whoever found it, is as it is printed a decision on the input: it is true, and
-/// accepted behind the input. So is a decision by a verdict.
+/// accepted after the input, as is a decision by a verdict.
 pub fn what_holds_is_a_decision()
     ensures decision { (bytes : List ℕ) (problem : ProblemText) (x : Said) → problem_of bytes ≡ Ok problem → IsFindingOf problem x
         → IsDecision bytes (said_text x) }
@@ -44,7 +44,7 @@ pub fn a_block_that_was_read_has_a_text()
 {}
 
 /// Where a text is a decision on an input, or bytes are read in which something is said that is accepted, it is true: no list of moves joins
-/// diagrams that are told apart.
+/// diagrams that are distinguished.
 pub fn what_is_accepted_is_true()
     ensures written { (bytes text : List ℕ) (problem : ProblemText) (decision : IsDecision bytes text) → problem_of bytes ≡ Ok problem
         → IsTrueSaid problem decision.statement }

@@ -28,7 +28,8 @@ unfolding version_at word next_token last_count last_number number line_end
 not_second n = refl
 
 verdict_fails : (one two n ending : ℕ) (lines : List NumberedLine)
-    → verdict_item one two (record { lines = record { number = n; tokens = codes "certificate" ∷ codes "3" ∷ [] } ∷ lines; ending = ending }) ≡ Err (Malformed n)
+    → verdict_item one two (record { lines = record { number = n; tokens = codes "certificate" ∷ codes "3" ∷ [] } ∷ lines; ending = ending })
+    ≡ Err (Malformed n)
 unfolding verdict_item versioned_item tidy_item next_line
 verdict_fails one two n ending lines = rw (not_second n) refl
 
@@ -51,7 +52,8 @@ third_fails one two text is x read = by text.lines refl is
         let tokens = third_tokens line.tokens is in
         let whole : text ≡ record { lines = record { number = line.number; tokens = codes "certificate" ∷ codes "3" ∷ [] } ∷ lines; ending = text.ending } =
         rw (lines_are, tokens) refl in
-        let no : Err (Malformed line.number) ≡ Ok x = sym (verdict_fails one two line.number text.ending lines) ∙ sym (ap (verdict_item one two) whole) ∙ read in
+        let no : Err (Malformed line.number) ≡ Ok x = sym (verdict_fails one two line.number text.ending lines)
+        ∙ sym (ap (verdict_item one two) whole) ∙ read in
         cc
 
 -- a text that has been read has no third version

@@ -63,7 +63,13 @@ unfolding seeds_at numbers_behind
 seeds_again n seeds few bytes =
     let short = bytes_short seeds.items bytes in
     let size : nat_lt MAX_SIZE (length seeds.items) ≡ false = le-ltb MAX_SIZE (length seeds.items) few in
-    rw (word_again (codes "seeds") n (map decimal seeds.items), values_again n seeds.items short, size, none_long seeds.items short, lows_same seeds.items bytes) refl
+    rw (
+      word_again (codes "seeds") n (map decimal seeds.items),
+      values_again n seeds.items short,
+      size,
+      none_long seeds.items short,
+      lows_same seeds.items bytes,
+    ) refl
 
 numbers_again : (due n : ℕ) (ks : List ℕ) → length ks ≡ due → AllByRecursion IsShort ks
     → numbers_line_at due (line_of n (codes "numbers" ∷ map decimal ks)) ≡ Ok ks

@@ -68,7 +68,8 @@ to_the_end n problem evidence has =
     let k = n + length (third_lines evidence) in
     let read : third_item (text_from n (third_text evidence)) ≡ Ok (evidence, text_from k []) =
     ap (λ (bytes : List ℕ). third_item (text_from n bytes)) (sym (append-nil (third_text evidence))) ∙ evidence_read n evidence [] has in
-    let last : ended problem (evidence, text_from k []) ≡ Ok (problem, said.Evidence evidence) = ap (λ r. r >>= λ end. Ok (problem, said.Evidence evidence)) (at_end k) in
+    let last : ended problem (evidence, text_from k []) ≡ Ok (problem, said.Evidence evidence) =
+    ap (λ r. r >>= λ end. Ok (problem, said.Evidence evidence)) (at_end k) in
     ap (λ r. r >>= λ w. ended problem w) read ∙ last
 
 whole_third : (text : Text) (problem : ProblemText) (tail : Text) → problem_item text ≡ Ok (problem, tail) → third_in text ≡ behind_problem (problem, tail)

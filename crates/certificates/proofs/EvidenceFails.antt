@@ -268,14 +268,16 @@ flat_line (Err e) = refl
 
 evidence_steady : Steady Anywhere (λ text. next_line text >>= λ line. evidence_at line.0 line.1)
 evidence_steady =
-    same_steady Anywhere (λ text. next_line text >>= λ line. branch line.0 >>= λ c. take_branch c line.1) (λ text. next_line text >>= λ line. evidence_at line.0 line.1)
+    same_steady Anywhere (λ text. next_line text >>= λ line. branch line.0 >>= λ c. take_branch c line.1)
+    (λ text. next_line text >>= λ line. evidence_at line.0 line.1)
     (λ text. flat_line (next_line text)) (line_then branch take_branch branch_at branch_steady)
 
 head_at_at : (line : NumberedLine) → At line.number (head_at line)
 unfolding head_at
 head_at_at line =
     at_bind (word_at (codes "certificate") line) (λ rest e.
-    at_bind (at_same ((word_keeps (codes "certificate") line).of rest e) (last_count_at rest)) (λ version f. at_cond (version == THIRD_VERSION) at_ok at_malformed))
+    at_bind (at_same ((word_keeps (codes "certificate") line).of rest e) (last_count_at rest))
+    (λ version f. at_cond (version == THIRD_VERSION) at_ok at_malformed))
 
 pub third_steady : Steady Anywhere third_item
 unfolding third_item
@@ -300,7 +302,8 @@ flat_end (Ok end) p v = refl
 flat_end (Err e) p v = refl
 
 flat_judged : (s : Result (Verdict × Text) TextFault) (p : ProblemText)
-    → with_verdict (s >>= λ verdict. text_end verdict.1 >>= λ end. Ok (p, verdict.0)) ≡ (s >>= λ verdict. text_end verdict.1 >>= λ end. Ok (p, said.Verdict verdict.0))
+    → with_verdict (s >>= λ verdict. text_end verdict.1 >>= λ end. Ok (p, verdict.0))
+    ≡ (s >>= λ verdict. text_end verdict.1 >>= λ end. Ok (p, said.Verdict verdict.0))
 flat_judged (Ok verdict) p = flat_end (text_end verdict.1) p verdict.0
 flat_judged (Err e) p = refl
 
@@ -327,7 +330,8 @@ end_of_said p =
     by_next_fails starts_third (third_end p) (verdict_end p) third_of_next refl
     (then_fails Anywhere third_item (λ evidence text. text_end text >>= λ end. Ok (p, said.Evidence evidence)) anywhere_seen third_steady
     (λ evidence. end_fails (p, said.Evidence evidence)))
-    (then_fails Anywhere (verdict_item (column_count p.first) (column_count p.second)) (λ verdict text. text_end text >>= λ end. Ok (p, said.Verdict verdict)) anywhere_seen
+    (then_fails Anywhere (verdict_item (column_count p.first) (column_count p.second))
+    (λ verdict text. text_end text >>= λ end. Ok (p, said.Verdict verdict)) anywhere_seen
     (verdict_steady (column_count p.first) (column_count p.second)) (λ verdict. end_fails (p, said.Verdict verdict)))
 
 pub said_fails : FailsFirst said_in

@@ -49,7 +49,8 @@ two_lines d s =
     (sym (append-nil ((codes "numbers" ++ s) ++ codes "\n")))
 
 pub linked_text : (l : Linked) (out : List ℕ)
-    → (((out ++ (codes "components " ++ (decimal l.components ++ codes "\n"))) ++ codes "numbers") ++ flat_map spaced (map letter_token l.numbers)) ++ codes "\n"
+    → (((out ++ (codes "components " ++ (decimal l.components ++ codes "\n"))) ++ codes "numbers") ++ flat_map spaced (map letter_token l.numbers))
+    ++ codes "\n"
     ≡ out ++ lines_text (linked_lines l)
 linked_text l out =
     let numbers = flat_map spaced (map letter_token l.numbers) in

@@ -35,5 +35,6 @@ unknot = record { x = 0 ∷ 1 ∷ []; o = 1 ∷ 0 ∷ [] }
 
 read : said_of (codes "x 0 1\no 1 0\nx 0 1\no 1 0\n" ++ links)
     ≡ Ok (record { first = Grid unknot; second = Grid unknot; quandles = built_in }, said.Evidence (Linking two one))
-unfolding third_in problem_item diagram_item grid_item x_at o_at quandle_list quandles third_item head_at evidence_at linking_evidence linked_item components_at letters_at numbers_behind next_line text_end next_token line_end word number last_number last_count each_token
+unfolding third_in problem_item diagram_item grid_item x_at o_at quandle_list quandles third_item head_at evidence_at linking_evidence linked_item components_at
+    letters_at numbers_behind next_line text_end next_token line_end word number last_number last_count each_token
 read = refl

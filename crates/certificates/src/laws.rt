@@ -19,7 +19,7 @@ ghost use Rattle.certificates.specs.Shadows.{shadow_lines, shadow_text, HasShado
 use knot_text::WeightText;
 use verdict_core::{ProblemText, Verdict};
 
-/// A text in which no line `certificate 3` stands behind the problem is read as without this version: the same problem and verdict, or the same fault.
+/// A text in which no line `certificate 3` follows the problem is read as without this version: the same problem and verdict, or the same fault.
 pub fn a_text_without_a_third_version_is_read_as_before()
     ensures { (bytes : List ℕ) → has_third (problem_item (text_of bytes)) ≡ false → said_of bytes ≡ with_verdict (check_of bytes) }
 {}
@@ -32,13 +32,13 @@ pub fn what_was_read_before_is_read_so()
         → check_of bytes ≡ Ok (problem, verdict) }
 {}
 
-/// Printed evidence is read back, whatever stands behind it, if it has a text.
+/// Printed evidence is read back, whatever follows it, if it has a text.
 pub fn printed_evidence_is_read()
     ensures { (n : ℕ) (evidence : Evidence) (more : List ℕ) → HasEvidenceText evidence
         → third_item (text_from n (third_text evidence ++ more)) ≡ Ok (evidence, text_from (n + length (third_lines evidence)) more) }
 {}
 
-/// Evidence that is printed behind the whole lines of a problem is read with it.
+/// Evidence that is printed after the whole lines of a problem is read with it.
 pub fn evidence_behind_its_problem_is_read()
     ensures { (bytes : List ℕ) (problem : ProblemText) (evidence : Evidence) → are_whole_lines bytes ≡ true → problem_of bytes ≡ Ok problem
         → HasEvidenceText evidence → said_of (bytes ++ third_text evidence) ≡ Ok (problem, said.Evidence evidence) }
@@ -49,7 +49,7 @@ pub fn a_fault_of_what_is_said_is_that_of_the_first_bad_line()
     ensures { FailsFirst said_in }
 {}
 
-/// A printed shadow cocycle of a quandle is read back, whatever stands behind it.
+/// A printed shadow cocycle of a quandle is read back, whatever follows it.
 pub fn a_printed_shadow_cocycle_is_read()
     ensures { (quandle : Table) (s : SpelledShadow) (n : ℕ) (more : List ℕ) → HasShadowText quandle s
         → shadow_item quandle (text_from n (shadow_text s ++ more)) ≡ Ok (s, text_from (n + length (shadow_lines s)) more) }
@@ -60,7 +60,7 @@ pub fn a_read_shadow_cocycle_has_a_text()
     ensures { (quandle : Table) (s : SpelledShadow) (text rest : Text) → IsQuandle quandle → shadow_item quandle text ≡ Ok (s, rest) → HasShadowText quandle s }
 {}
 
-/// A shadow cocycle is read whatever whole lines stand behind it.
+/// A shadow cocycle is read whatever whole lines follow it.
 pub fn a_shadow_cocycle_is_read_whatever_stands_behind()
     ensures { (quandle : Table) → IsStable (shadow_item quandle) }
 {}

@@ -1,4 +1,4 @@
-//! Numbers of colourings as texts, and what is said of two diagrams as it stands in a certificate: printed, and read back as it was printed.
+//! Numbers of colourings as texts, and what is said of two diagrams as it is in a certificate: printed, and read back as it was printed.
 #![tactic(auto)]
 
 pub mod laws;

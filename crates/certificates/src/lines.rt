@@ -85,7 +85,7 @@ pub fn push_labelled_line(out: &mut Vec<u8>, word: &[u8], numbers: &[u32]) -> Re
     out.extend_from_slice(b"\n")
 }
 
-/// Appends numbers, each behind a space.
+/// Appends numbers, each after a space.
 fn push_spaced(out: &mut Vec<u8>, numbers: &[u32]) -> Result<(), AllocError>
     ensures { OnOk result (out.new.items ≡ out.old.items ++ flat_map (λ n. spaced (decimal n)) numbers.now) }
 {

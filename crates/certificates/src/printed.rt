@@ -19,7 +19,7 @@ use quandle_core::MAX_LARGE_ORDER;
 use std::alloc::{AllocError, Global};
 use text_lines::{push_counted, push_number, push_number_line, push_word_line};
 
-/// The text of evidence by numbers, behind the line `certificate 3`.
+/// The text of evidence by numbers, after the line `certificate 3`.
 pub fn print_evidence(alloc: Global, evidence: &Evidence) -> Result<Vec<u8>, AllocError>
     ensures { IfOk result (λ v. v.items ≡ third_text evidence.now) }
 {
@@ -127,7 +127,7 @@ fn push_linked(out: &mut Vec<u8>, linked: &Linked) -> Result<(), AllocError>
     out.extend_from_slice(b"\n")
 }
 
-/// Appends numbers that may be negative, each behind a space.
+/// Appends numbers that may be negative, each after a space.
 fn push_letters(out: &mut Vec<u8>, letters: &[i64]) -> Result<(), AllocError>
     ensures { OnOk result (out.new.items ≡ out.old.items ++ flat_map spaced (map letter_token letters.now)) }
 {
@@ -137,7 +137,7 @@ fn push_letters(out: &mut Vec<u8>, letters: &[i64]) -> Result<(), AllocError>
     Ok(())
 }
 
-/// Appends a number that may be negative, behind a space.
+/// Appends a number that may be negative, after a space.
 fn push_letter(out: &mut Vec<u8>, letter: i64) -> Result<(), AllocError>
     ensures { OnOk result (out.new.items ≡ out.old.items ++ spaced (letter_token letter)) }
 {
@@ -145,7 +145,7 @@ fn push_letter(out: &mut Vec<u8>, letter: i64) -> Result<(), AllocError>
     push_number(out, letter.unsigned_abs())
 }
 
-/// What stands in front of a number: a space, and its sign.
+/// What comes before a number: a space, and its sign.
 fn ahead_of(letter: i64) -> &'static [u8]
     ensures { spaced (letter_token letter) ≡ result.now ++ decimal (unsigned_abs letter) }
 {

@@ -10,8 +10,8 @@ use memory_core::OutOfMemory;
 use number_text::Said;
 use std::alloc::Global;
 
-/// The text of what is said of two diagrams: of a verdict behind the line `certificate 2`, of evidence by numbers behind the line `certificate 3`;
-/// or want of memory. The list of moves of a verdict, if it has one, is tidy.
+/// The text of what is said of two diagrams: of a verdict after the line `certificate 2`, of evidence by numbers after the line `certificate 3`;
+/// or an error if memory runs out. The list of moves of a verdict, if it has one, is tidy.
 pub fn print_said(alloc: Global, said: &Said) -> Result<Vec<u8>, OutOfMemory>
     requires { IsTidySaid said.now }
     ensures { IfOk result (λ v. v.items ≡ said_text said.now) }

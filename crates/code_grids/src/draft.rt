@@ -1,6 +1,6 @@
 //! Drafts of grid diagrams.
 
-use crate::bends::{Bends, bends_of};
+use crate::bends::bends_of;
 use crate::lines::Lines;
 use crate::order::places;
 use crate::rectangles::LinePairs;
@@ -26,63 +26,52 @@ pub struct Draft {
 /// A draft of a diagram of a code, of at most so many columns.
 pub fn draft_of(alloc: Global, code: &Code, most: usize) -> Result<Draft, OutOfMemory> {
     let sphere = Sphere::of(alloc, code)?;
-    let bends = bends_of(alloc, &sphere)?;
+    let bends = bends_of(&sphere)?;
+    let lines = Lines::of(&sphere, &bends)?;
     let loops = code.loops as usize;
     let mut draft = Draft {
         x: Vec::new(alloc),
         o: Vec::new(alloc),
         crossings: Vec::new(alloc),
-        columns: columns_for(&sphere, &bends, loops),
+        columns: (lines.count / 2).saturating_add(loops.saturating_mul(2)),
     };
-    if draft.columns > most {
-        return Ok(draft);
+    if draft.columns <= most {
+        draw(&mut draft, &lines, loops)?;
     }
-    let lines = Lines::of(alloc, &sphere, &bends)?;
-    let pairs = LinePairs::of(alloc, &sphere, &bends, &lines)?;
-    let (columns, rows) = places_of(alloc, &sphere, &lines, &pairs)?;
-    let across = columns.as_slice();
-    let upward = rows.as_slice();
-    push_marks(&mut draft, &lines, across, upward)?;
-    push_loops(&mut draft, loops)?;
-    push_crossings(&mut draft, &sphere, &lines, across, upward)?;
     Ok(draft)
 }
 
-/// How many columns a diagram takes: half as many as its edges turn, and two more for each component without a crossing.
-fn columns_for(sphere: &Sphere, bends: &Bends, loops: usize) -> usize {
-    let mut turns: usize = 0;
-    for dart in 0..sphere.darts {
-        if sphere.leaves(dart) {
-            turns = turns.saturating_add(bends.count(dart));
-        }
-    }
-    (turns / 2).saturating_add(loops.saturating_mul(2))
+/// Draws these lines, and so many components without a crossing.
+fn draw(draft: &mut Draft, lines: &Lines, loops: usize) -> Result<(), OutOfMemory> {
+    let layout = layout_of(lines)?;
+    push_marks(draft, lines, &layout)?;
+    push_loops(draft, loops)?;
+    push_crossings(draft, lines, &layout)?;
+    Ok(())
 }
 
 /// The columns of the vertical lines and the rows of the others, by line.
-fn places_of(
-    alloc: Global,
-    sphere: &Sphere,
-    lines: &Lines,
-    pairs: &LinePairs,
-) -> Result<(Vec<usize>, Vec<usize>), OutOfMemory> {
-    let count = lines.count;
-    let total = count.saturating_add(sphere.roots.len()).saturating_add(1);
+#[derive(Drop)]
+struct Layout {
+    columns: Vec<usize>,
+    rows: Vec<usize>,
+}
+
+/// Where the lines stand.
+fn layout_of(lines: &Lines) -> Result<Layout, OutOfMemory> {
+    let alloc = lines.sphere.alloc;
+    let pairs = LinePairs::of(lines)?;
+    let fences = lines.sphere.roots.len().saturating_add(1);
     let upright = lines.upright.as_slice();
     let flat: Vec<bool> = upright.iter().map(|upright| !*upright).collect(alloc)?;
-    let columns = places(alloc, pairs.across.as_slice(), upright, count, total)?;
-    let upward = pairs.upward.as_slice();
-    let rows = places(alloc, upward, flat.as_slice(), count, total)?;
-    Ok((columns, rows))
+    let columns = places(alloc, pairs.across.as_slice(), flat.as_slice(), fences)?;
+    let rows = places(alloc, pairs.upward.as_slice(), upright, fences)?;
+    Ok(Layout { columns, rows })
 }
 
 /// Puts the marks of the lines: each vertical one has its X on the line before and its O on the line after.
-fn push_marks(
-    draft: &mut Draft,
-    lines: &Lines,
-    columns: &[usize],
-    rows: &[usize],
-) -> Result<(), AllocError> {
+fn push_marks(draft: &mut Draft, lines: &Lines, layout: &Layout) -> Result<(), AllocError> {
+    let (columns, rows) = (layout.columns.as_slice(), layout.rows.as_slice());
     for column in 0..lines.count {
         for line in 0..lines.count {
             if marked(lines.upright.as_slice(), line) && at(columns, line) == column {
@@ -109,18 +98,16 @@ fn push_loops(draft: &mut Draft, loops: usize) -> Result<(), AllocError> {
 }
 
 /// Puts the crossings, each where its vertical strand over meets the other one.
-fn push_crossings(
-    draft: &mut Draft,
-    sphere: &Sphere,
-    lines: &Lines,
-    columns: &[usize],
-    rows: &[usize],
-) -> Result<(), AllocError> {
+fn push_crossings(draft: &mut Draft, lines: &Lines, layout: &Layout) -> Result<(), AllocError> {
+    let sphere = lines.sphere;
     for root in 0..sphere.darts {
         if root % 4 == 0 {
             let over = if sphere.leaves(turned(root, 1)) { 1 } else { 3 };
-            let column = at(columns, lines.enters(turned(root, over)));
-            let row = at(rows, lines.enters(turned(root, 2)));
+            let column = at(
+                layout.columns.as_slice(),
+                lines.behind(turned(root, over), 0),
+            );
+            let row = at(layout.rows.as_slice(), lines.behind(turned(root, 2), 0));
             draft.crossings.push((small(column), small(row)))?;
         }
     }

@@ -1,5 +1,4 @@
 //! New names of edges, as the crossings ask for them.
-//!
 //! Names are exchanged in pairs, from each edge's own name on, so that they are one to one whatever is asked for.
 ghost use Rattle.std.specs.Prelude.{◌≡◌, true, length, IfOk};
 ghost use Rattle.std.specs.List.{range_with_len};

@@ -1,6 +1,5 @@
 //! Grid diagrams of planar diagram codes, drawn with few columns. The code of an answered diagram is the given one, with other names of
 //! crossings and edges.
-//!
 //! Of a draft nothing is claimed but that it is made in bounded time: `grid_of_code` computes the code of the diagram and compares it.
 #![tactic(auto)]
 

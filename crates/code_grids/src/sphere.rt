@@ -3,12 +3,13 @@
 use crate::tables::{at, mark, marked, marks, put, table};
 use crossing_codes::{Code, Crossing};
 use memory_core::OutOfMemory;
-use std::alloc::Global;
+use std::alloc::{AllocError, Global};
 
 /// The map of a code. Dart 4v + p is the end of an edge at crossing v in slot p; slots are counted counterclockwise from the one
 /// on which the strand under comes. A dart runs from its crossing along its edge.
 #[derive(Drop)]
 pub(crate) struct Sphere {
+    pub(crate) alloc: Global,
     /// How many darts there are.
     pub(crate) darts: usize,
     pub(crate) twins: Vec<usize>,
@@ -20,6 +21,15 @@ pub(crate) struct Sphere {
     pub(crate) parts: Vec<usize>,
     /// A dart of each part.
     pub(crate) roots: Vec<usize>,
+    /// All darts, each as the end of a hop from one that stands before it; a root has a hop from itself.
+    pub(crate) hops: Vec<Hop>,
+}
+
+/// A hop from a dart to the next of its crossing, or to the other end of its edge.
+#[derive(Clone, Copy, Debug, PartialEq, Eq)]
+pub(crate) struct Hop {
+    pub(crate) from: usize,
+    pub(crate) to: usize,
 }
 
 impl Sphere {
@@ -28,6 +38,7 @@ impl Sphere {
         let crossings = code.crossings.as_slice();
         let darts = crossings.len().wrapping_mul(4);
         let mut sphere = Sphere {
+            alloc,
             darts,
             twins: table(alloc, darts)?,
             leaves: marks(alloc, darts)?,
@@ -35,10 +46,11 @@ impl Sphere {
             bounds: Vec::new(alloc),
             parts: table(alloc, darts)?,
             roots: Vec::new(alloc),
+            hops: Vec::new(alloc),
         };
-        pair_up(alloc, &mut sphere, crossings)?;
-        number_faces(alloc, &mut sphere)?;
-        number_parts(alloc, &mut sphere)?;
+        pair_up(&mut sphere, crossings)?;
+        number_faces(&mut sphere)?;
+        number_parts(&mut sphere)?;
         Ok(sphere)
     }
 
@@ -83,78 +95,96 @@ fn edge_at(crossing: &Crossing, slot: usize) -> usize {
     }) as usize
 }
 
+/// Whether the strand leaves a crossing by a slot.
+fn leaves_by(crossing: &Crossing, slot: usize) -> bool {
+    slot == 2 || (slot == 1 && crossing.positive) || (slot == 3 && !crossing.positive)
+}
+
 /// Joins the two ends of each edge, and marks the darts by which strands leave.
-fn pair_up(alloc: Global, sphere: &mut Sphere, crossings: &[Crossing]) -> Result<(), OutOfMemory> {
-    let mut seen = table(alloc, sphere.darts)?;
+fn pair_up(sphere: &mut Sphere, crossings: &[Crossing]) -> Result<(), OutOfMemory> {
+    let mut seen = table(sphere.alloc, sphere.darts)?;
     for (v, crossing) in crossings.iter().enumerate() {
         for slot in 0..4 {
             let dart = v.wrapping_mul(4).wrapping_add(slot);
-            let edge = edge_at(crossing, slot);
-            let other = at(seen.as_slice(), edge);
-            if other == 0 {
-                put(seen.as_mut_slice(), edge, dart.wrapping_add(1));
-            } else {
-                put(sphere.twins.as_mut_slice(), dart, other - 1);
-                put(sphere.twins.as_mut_slice(), other - 1, dart);
-            }
-            let leaves = match slot {
-                0 => false,
-                1 => crossing.positive,
-                2 => true,
-                _ => !crossing.positive,
-            };
+            join_end(sphere, seen.as_mut_slice(), edge_at(crossing, slot), dart);
+            let leaves = leaves_by(crossing, slot);
             mark(sphere.leaves.as_mut_slice(), dart, leaves);
         }
     }
     Ok(())
 }
 
+/// Joins a dart to the one of its edge that was seen before it, or notes the dart plus 1 as the first one seen.
+fn join_end(sphere: &mut Sphere, seen: &mut [usize], edge: usize, dart: usize) {
+    let other = at(seen, edge);
+    if other == 0 {
+        put(seen, edge, dart.wrapping_add(1));
+    } else {
+        put(sphere.twins.as_mut_slice(), dart, other - 1);
+        put(sphere.twins.as_mut_slice(), other - 1, dart);
+    }
+}
+
 /// Numbers the faces in the order of their least darts.
-fn number_faces(alloc: Global, sphere: &mut Sphere) -> Result<(), OutOfMemory> {
-    let mut seen = marks(alloc, sphere.darts)?;
+fn number_faces(sphere: &mut Sphere) -> Result<(), OutOfMemory> {
+    let mut seen = marks(sphere.alloc, sphere.darts)?;
     for first in 0..sphere.darts {
-        if marked(seen.as_slice(), first) {
-            continue;
-        }
-        let face = sphere.bounds.len();
-        sphere.bounds.push(first)?;
-        let mut dart = first;
-        for _ in 0..sphere.darts {
-            if marked(seen.as_slice(), dart) {
-                break;
-            }
-            mark(seen.as_mut_slice(), dart, true);
-            put(sphere.faces.as_mut_slice(), dart, face);
-            dart = sphere.next_in_face(dart);
+        if !marked(seen.as_slice(), first) {
+            number_face(sphere, seen.as_mut_slice(), first);
+            sphere.bounds.push(first)?;
         }
     }
     Ok(())
 }
 
+/// Gives the next number to the face on the left of a dart.
+fn number_face(sphere: &mut Sphere, seen: &mut [bool], first: usize) {
+    let face = sphere.bounds.len();
+    let mut dart = first;
+    for _ in 0..sphere.darts {
+        if marked(seen, dart) {
+            break;
+        }
+        mark(seen, dart, true);
+        put(sphere.faces.as_mut_slice(), dart, face);
+        dart = sphere.next_in_face(dart);
+    }
+}
+
 /// Numbers the connected parts in the order of their least crossings.
-fn number_parts(alloc: Global, sphere: &mut Sphere) -> Result<(), OutOfMemory> {
-    let mut seen = marks(alloc, sphere.darts)?;
+fn number_parts(sphere: &mut Sphere) -> Result<(), OutOfMemory> {
+    let mut seen = marks(sphere.alloc, sphere.darts)?;
     for first in 0..sphere.darts {
-        if marked(seen.as_slice(), first) {
-            continue;
+        if !marked(seen.as_slice(), first) {
+            number_part(sphere, seen.as_mut_slice(), first)?;
+            sphere.roots.push(first)?;
         }
-        let part = sphere.roots.len();
-        sphere.roots.push(first)?;
-        let mut found = Vec::new(alloc);
-        found.push(first)?;
-        mark(seen.as_mut_slice(), first, true);
-        for next in 0..sphere.darts {
-            let Some(dart) = found.as_slice().get(next).copied() else {
-                break;
-            };
-            put(sphere.parts.as_mut_slice(), dart, part);
-            for other in [sphere.twin(dart), turned(dart, 1)] {
-                if !marked(seen.as_slice(), other) {
-                    mark(seen.as_mut_slice(), other, true);
-                    found.push(other)?;
-                }
-            }
-        }
+    }
+    Ok(())
+}
+
+/// Gives the next number to the part of a dart, and notes the hops from that dart to all of its darts.
+fn number_part(sphere: &mut Sphere, seen: &mut [bool], root: usize) -> Result<(), AllocError> {
+    let part = sphere.roots.len();
+    let begun = sphere.hops.len();
+    note(sphere, seen, root, root)?;
+    for next in begun..sphere.darts {
+        let Some(hop) = sphere.hops.as_slice().get(next).copied() else {
+            break;
+        };
+        put(sphere.parts.as_mut_slice(), hop.to, part);
+        note(sphere, seen, hop.to, turned(hop.to, 1))?;
+        let twin = sphere.twin(hop.to);
+        note(sphere, seen, hop.to, twin)?;
+    }
+    Ok(())
+}
+
+/// Notes a hop, if its end wasn't seen.
+fn note(sphere: &mut Sphere, seen: &mut [bool], from: usize, to: usize) -> Result<(), AllocError> {
+    if !marked(seen, to) {
+        mark(seen, to, true);
+        sphere.hops.push(Hop { from, to })?;
     }
     Ok(())
 }

@@ -191,7 +191,11 @@ fn is_gauss_of(
 }
 
 /// Whether a code has these signed Gauss lines, where there are some.
-pub(crate) fn agrees(code: &Code, walks: &[Items<GaussPassage>], passages: &[GaussPassage]) -> bool
+pub(crate) fn agrees_with_gauss(
+    code: &Code,
+    walks: &[Items<GaussPassage>],
+    passages: &[GaussPassage],
+) -> bool
     requires few { length code.now.crossings ≤ MAX_CROSSINGS }
     requires all { passages.now ≡ all_of walks.now }
     ensures { result ≡ agrees_with_gauss code.now walks.now }

@@ -2,7 +2,7 @@
 ghost use Rattle.std.specs.Prelude.{◌≡◌, []};
 ghost use Rattle.std.specs.List.{list_any};
 ghost use Rattle.text_items.specs.Reading.{Gives, each_token};
-ghost use Rattle.code_text.specs.GaussLines.{over_of, sign_of, passage_of, is_beyond, walk_at, walks_from};
+ghost use Rattle.code_text.specs.GaussLines.{over_of, sign_of, passage_by, passage_of, is_beyond, walk_at, walks_from};
 
 use code_rows::MAX_CROSSINGS;
 use memory_core::Items;
@@ -56,13 +56,24 @@ fn passage_of(token: &[u8]) -> Option<GaussPassage>
         return None;
     };
     let (digits, sign) = rest.split_at(rest.len().saturating_sub(1));
-    let Some(over) = over_of(*kind) else {
+    passage_by(over_of(*kind), number(digits), sign_of(sign))
+}
+
+/// The passage of three parts, if each is one.
+fn passage_by(
+    over: Option<bool>,
+    crossing: Option<u32>,
+    positive: Option<bool>,
+) -> Option<GaussPassage>
+    ensures { result ≡ passage_by over crossing positive }
+{
+    let Some(over) = over else {
         return None;
     };
-    let Some(crossing) = number(digits) else {
+    let Some(crossing) = crossing else {
         return None;
     };
-    let Some(positive) = sign_of(sign) else {
+    let Some(positive) = positive else {
         return None;
     };
     Some(GaussPassage {

@@ -7,7 +7,7 @@ ghost use Rattle.code_rows.specs.RowsFault.{unpaired};
 ghost use Rattle.code_text.specs.TextGrid.{Says, HasWrongLines, IsAnswer};
 
 use crate::code_reading::CodeText;
-use crate::gauss_check::{agrees, all_of};
+use crate::gauss_check::{agrees_with_gauss, all_of};
 use crate::gauss_signs::signed;
 use crate::refusal::TextRefusal;
 use code_grids::{Refusal, grid_of_code};
@@ -62,7 +62,7 @@ fn said_by(alloc: Global, text: &CodeText, code: Code) -> Result<Option<Code>, O
         edges: code.edges,
         loops: code.loops,
     };
-    if !agrees(&said, walks, passages.as_slice()) {
+    if !agrees_with_gauss(&said, walks, passages.as_slice()) {
         return Ok(None);
     }
     if !are_joined(&said) {

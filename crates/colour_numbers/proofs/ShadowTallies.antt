@@ -79,12 +79,14 @@ partly_more t d counts f n u is lt =
 pub partly_all : (t : ShadowCochain) (d : Diagram) (counts f : List ℕ) (n : ℕ) → n ≡ t.quandle.order
     → partly t d counts f n ≡ tallied t.modulus (outers_of t d) counts (f ∷ [])
 partly_all t d counts f n all =
-    by_place t.modulus (partly t d counts f n) (tallied t.modulus (outers_of t d) counts (f ∷ [])) (partly_long t d counts f n) (tallied_long t.modulus (outers_of t d) counts (f ∷ []))
+    by_place t.modulus (partly t d counts f n) (tallied t.modulus (outers_of t d) counts (f ∷ [])) (partly_long t d counts f n)
+    (tallied_long t.modulus (outers_of t d) counts (f ∷ []))
     (λ v lt.
     let a = partly_at t d counts f n v lt in
     let b = tallied_at t.modulus (outers_of t d) counts (f ∷ []) v lt in
     let c = sum_by-cons (outers_of t d v) f [] in
-    let e : count_by (has_shadow_weight t d v f) (range_with_len 0 n) ≡ outers_of t d v f = ap (λ (k : ℕ). count_by (has_shadow_weight t d v f) (range_with_len 0 k)) all in
+    let e : count_by (has_shadow_weight t d v f) (range_with_len 0 n) ≡ outers_of t d v f =
+    ap (λ (k : ℕ). count_by (has_shadow_weight t d v f) (range_with_len 0 k)) all in
     omega arith)
 
 -- ---- all of them

@@ -37,12 +37,15 @@ tallied_one w d counts f u n long is below next =
     let k = count-cons (has_weight w d v) f [] in
     elim (cases_eq v u) [
       | inl same ↦
-          let one : ◌≡◌ {A = ℕ} (cond (has_weight w d v f) 1 0) 1 = ap (λ (b : Bool). cond b 1 0) (eq-eqb (weight_by_rows w d (take (size d) f)) v (sym is ∙ sym same)) in
-          let here : get_or (set counts u n) v 0 ≡ n = ap (λ (k : ℕ). get_or (set counts u n) k 0) same ∙ get_or-set_same counts u n 0 (omega (arith, below, long)) in
+          let one : ◌≡◌ {A = ℕ} (cond (has_weight w d v f) 1 0) 1 = ap (λ (b : Bool). cond b 1 0)
+          (eq-eqb (weight_by_rows w d (take (size d) f)) v (sym is ∙ sym same)) in
+          let here : get_or (set counts u n) v 0 ≡ n = ap (λ (k : ℕ). get_or (set counts u n) k 0) same
+          ∙ get_or-set_same counts u n 0 (omega (arith, below, long)) in
           let there : get_or counts v 0 ≡ get_or counts u 0 = ap (λ (k : ℕ). get_or counts k 0) same in
           omega arith
       | inr other ↦
-          let none : ◌≡◌ {A = ℕ} (cond (has_weight w d v f) 1 0) 0 = ap (λ (b : Bool). cond b 1 0) (ne_eqb (weight_by_rows w d (take (size d) f)) v (λ e. other (sym e ∙ sym is))) in
+          let none : ◌≡◌ {A = ℕ} (cond (has_weight w d v f) 1 0) 0 = ap (λ (b : Bool). cond b 1 0)
+          (ne_eqb (weight_by_rows w d (take (size d) f)) v (λ e. other (sym e ∙ sym is))) in
           let here = get_or-set_other counts u v n 0 other in
           omega arith
     ])

@@ -10,7 +10,7 @@ ghost use Rattle.colour_numbers.specs.Numbers.{choices_of, coloured_by, fits_by,
 use crate::regions::shadow_weights_by_seeds;
 use crate::strands::weights_by_seeds;
 use cocycle_core::LargeCocycle;
-use colour_seeds::{CountFault, Seeding, count, fits};
+use colour_seeds::{CountFault, Seeding, count, few_ways};
 use evidence_core::LargeWeighing;
 use grid_core::Grid;
 use quandle_core::Operations;
@@ -41,10 +41,10 @@ fn so_many_fit(quandle: &Operations, cocycle: &Option<LargeWeighing>, choices: u
     ensures { result ≡ few_ways (coloured_by quandle.now cocycle.now) choices }
 {
     match cocycle {
-        None => fits(quandle, choices),
-        Some(LargeWeighing::Strands(cocycle)) => fits(&cocycle.quandle(), choices),
+        None => few_ways(quandle, choices),
+        Some(LargeWeighing::Strands(cocycle)) => few_ways(&cocycle.quandle(), choices),
         Some(LargeWeighing::Regions(shadow)) => {
-            fits(&shadow.cocycle.quandle().operations(), choices)
+            few_ways(&shadow.cocycle.quandle().operations(), choices)
         }
     }
 }

@@ -9,8 +9,8 @@ use crate::lane::{Lane, lanes_of};
 use crate::lane_weight::weight_of;
 use crate::tally::tally_all;
 use crate::weigher::Weigher;
-use colour_seeds::settling::Colours;
-use colour_seeds::{CountFault, Seeding, fits};
+use colour_seeds::settling::SettledColours;
+use colour_seeds::{CountFault, Seeding, few_ways};
 use colour_weights::ShadowCocycle;
 use grid_core::Grid;
 use quandle_core::Operations;
@@ -34,7 +34,7 @@ pub fn shadow_weights_by_seeds(
 {
     let _size = grid.size();
     let _modulus = cocycle.modulus();
-    if !fits(&cocycle.quandle().operations(), seeding.seeds().len() + 1) {
+    if !few_ways(&cocycle.quandle().operations(), seeding.seeds().len() + 1) {
         return Err(CountFault::TooWide);
     }
     let Ok(regions) = Regions::of(alloc, grid, cocycle) else {
@@ -107,7 +107,7 @@ impl<'a> Weigher for Regions<'a> {
         self.cocycle.modulus()
     }
 
-    fn add(&self, colours: &Colours, counts: &mut [u32]) {
+    fn add(&self, colours: &SettledColours, counts: &mut [u32]) {
         let _size = self.grid.size();
         let (columns, _) = colours.split_at(self.grid.size() as usize);
         for outer in 0..self.quandle.order() {

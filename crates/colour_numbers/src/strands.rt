@@ -8,8 +8,8 @@ ghost use Rattle.colour_seeds.specs.Plan.{IsPlan, seeds_in};
 use crate::tally::tally_all;
 use crate::weigher::Weigher;
 use cocycle_core::Values;
-use colour_seeds::settling::Colours;
-use colour_seeds::{CountFault, Seeding, fits};
+use colour_seeds::settling::SettledColours;
+use colour_seeds::{CountFault, Seeding, few_ways};
 use colour_weights::weight_by_rows;
 use grid_core::Grid;
 use quandle_core::Operations;
@@ -31,7 +31,7 @@ pub fn weights_by_seeds(
 {
     let _size = grid.size();
     let _modulus = cocycle.modulus();
-    if !fits(cocycle.quandle(), seeding.seeds().len()) {
+    if !few_ways(cocycle.quandle(), seeding.seeds().len()) {
         return Err(CountFault::TooWide);
     }
     tally_all(alloc, grid, &Strands { grid, cocycle }, seeding)
@@ -65,7 +65,7 @@ impl<'a> Weigher for Strands<'a> {
         self.cocycle.modulus()
     }
 
-    fn add(&self, colours: &Colours, counts: &mut [u32]) {
+    fn add(&self, colours: &SettledColours, counts: &mut [u32]) {
         let _size = self.grid.size();
         let (columns, _) = colours.split_at(self.grid.size() as usize);
         let weight = weight_by_rows(self.grid, self.cocycle, columns);

@@ -14,7 +14,7 @@ ghost use Rattle.colour_numbers.specs.Tallies.{tallied, tally};
 
 use crate::weigher::Weigher;
 use colour_rows::Row;
-use colour_seeds::settling::{Colours, closes, row_at, settle_left, settle_right};
+use colour_seeds::settling::{SettledColours, passes};
 use colour_seeds::{CountFault, Seeding, Step, rows_of};
 use colour_weights::counts::zeros;
 use grid_core::{Grid, MAX_SIZE};
@@ -60,7 +60,7 @@ struct Tally<'a, W> {
 impl<'a, W: Weigher> Tally<'a, W> {
     /// Counts the weights of the lists that the steps make of one, on top of what was counted before.
     #[cycle(tally)]
-    fn tally_from(&self, steps: &[Step], colours: &mut Colours, counts: &mut [u32])
+    fn tally_from(&self, steps: &[Step], colours: &mut SettledColours, counts: &mut [u32])
         requires rows { self.now.rows.now ≡ map (equation self.now.grid.now) (range_with_len 0 (size self.now.grid.now)) }
         requires inside { All (IsInside self.now.grid.now) steps.now }
         requires colours { AreColours MAX_SIZE (W.quandle self.now.weigher.now).order colours.old }
@@ -77,30 +77,16 @@ impl<'a, W: Weigher> Tally<'a, W> {
             self.weigher.add(colours, counts);
             return;
         };
-        match *step {
-            Step::Seed { column } => self.tally_each(rest, colours, column, counts),
-            Step::Rightward { row } => {
-                let line = row_at(self.grid, self.rows, row);
-                settle_right(line, quandle, colours);
-                self.tally_from(rest, colours, counts);
-            }
-            Step::Leftward { row } => {
-                let line = row_at(self.grid, self.rows, row);
-                settle_left(line, quandle, colours);
-                self.tally_from(rest, colours, counts);
-            }
-            Step::Test { row } => {
-                let line = row_at(self.grid, self.rows, row);
-                if closes(line, quandle, colours) {
-                    self.tally_from(rest, colours, counts);
-                }
-            }
+        if let Some(column) = step.seed() {
+            self.tally_each(rest, colours, column, counts);
+        } else if passes(self.grid, self.rows, quandle, *step, colours) {
+            self.tally_from(rest, colours, counts);
         }
     }
 
     /// Counts the weights of the lists that the steps make of one with each colour of a seed, on top of what was counted before.
     #[cycle(tally)]
-    fn tally_each(&self, steps: &[Step], colours: &Colours, column: u8, counts: &mut [u32])
+    fn tally_each(&self, steps: &[Step], colours: &SettledColours, column: u8, counts: &mut [u32])
         requires rows { self.now.rows.now ≡ map (equation self.now.grid.now) (range_with_len 0 (size self.now.grid.now)) }
         requires inside { All (IsInside self.now.grid.now) steps.now }
         requires colours { AreColours MAX_SIZE (W.quandle self.now.weigher.now).order colours.now }

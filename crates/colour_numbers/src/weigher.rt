@@ -5,7 +5,7 @@ ghost use Rattle.quandle_core.specs.Quandle.{Table};
 ghost use Rattle.colour_rows.specs.Colouring.{AreColours};
 ghost use Rattle.colour_numbers.specs.Tallies.{tallied};
 
-use colour_seeds::settling::Colours;
+use colour_seeds::settling::SettledColours;
 use quandle_core::Operations;
 
 /// Counts lists of colours by weight.
@@ -31,7 +31,7 @@ pub trait Weigher {
         ensures { result ≡ modulus self.now };
 
     /// Adds a list of colours to the counts by weight.
-    fn add(&self, colours: &Colours, counts: &mut [u32])
+    fn add(&self, colours: &SettledColours, counts: &mut [u32])
         requires colours { AreColours MAX_SIZE (quandle self.now).order colours.now }
         requires long { length counts.old ≡ modulus self.now }
         requires room { (v : ℕ) → v < modulus self.now → slice_index counts.old v + choices self.now < 2 ^ 32 }

@@ -68,14 +68,20 @@ walk_carried t q d h r f below (c ∷ cs) inside x lt =
 
 pub carried : (t : Table) → IsQuandle t → (d : Diagram) → IsGrid d → (h : ℕ → ℕ) → Respects t h → (f : List ℕ) → IsColouring t d f → IsColouring t d (map h f)
 carried t q d grid h r f c = record {
-  colours_are = (length-map f h ∙ c.colours_are.0, All-map (λ y. y < t.order) h f (All-weaker (λ y. y < t.order) (λ y. h y < t.order) r.stays f c.colours_are.1));
+  colours_are = (
+    length-map f h ∙ c.colours_are.0,
+    All-map (λ y. y < t.order) h f
+        (All-weaker (λ y. y < t.order) (λ y. h y < t.order) r.stays f c.colours_are.1),
+  );
   rows = λ row lt.
       let ends = has_ends d grid row lt in
       let at_left : left d row < length f = omega (arith, ends.ordered, ends.within, c.colours_are.0) in
       let at_right : right d row < length f = omega (arith, ends.within, c.colours_are.0) in
-      let inside = All-weaker (IsPassed d row) (λ k. k < length f) (λ k p. let ahead = p.ahead in omega arith) (passed d row) (each_passed d row ends.ordered) in
+      let inside = All-weaker (IsPassed d row) (λ k. k < length f) (λ k p. let ahead = p.ahead in omega arith)
+      (passed d row) (each_passed d row ends.ordered) in
       ap (λ (x : ℕ). fold (under t d (map h f)) x (passed d row)) (get_or-map h f (left d row) 0 0 at_left)
-      ∙ (walk_carried t q d h r f c.colours_are.1 (passed d row) inside (get_or f (left d row) 0) (All-get_or (λ y. y < t.order) f (left d row) 0 at_left c.colours_are.1)
+      ∙ (walk_carried t q d h r f c.colours_are.1 (passed d row) inside (get_or f (left d row) 0)
+      (All-get_or (λ y. y < t.order) f (left d row) 0 at_left c.colours_are.1)
       ∙ (ap h (c.rows row lt) ∙ sym (get_or-map h f (right d row) 0 0 at_right)));
 }
 

@@ -1,5 +1,6 @@
 -- Of a connected quandle the first seed needs one colour alone: with each other there are as many colourings.
-use Rattle.std.proofs.Common.{◌≡◌, ◌≢◌, ◌<◌, ◌+◌, ◌*◌, ◌^◌, ◌++◌, ◌==◌, ◌∙◌, inl, inr, ℕ, zero, suc, List, [], ◌∷◌, Bool, true, false, cond, length, take, get_or, set, replicate, nat_lt, count_by, refl, sym, ap, ap₂, subst, arith}
+use Rattle.std.proofs.Common.{◌≡◌, ◌≢◌, ◌<◌, ◌+◌, ◌*◌, ◌^◌, ◌++◌, ◌==◌, ◌∙◌, inl, inr, ℕ, zero, suc, List, [], ◌∷◌, Bool, true, false, cond, length}
+use Rattle.std.proofs.Common.{take, get_or, set, replicate, nat_lt, count_by, refl, sym, ap, ap₂, subst, arith}
 use Rattle.std.specs.Prelude.{if◌then◌else◌}
 use Rattle.std.specs.List.{All, IsFirstAndRest, flat_map, range_with_len}
 use Rattle.std.proofs.Math.Nat.{suc-mul}
@@ -21,7 +22,7 @@ use Rattle.colour_list.proofs.Choices.{listed_most}
 use Rattle.colour_seeds.specs.Connected.{IsConnected, coloured_so}
 use Rattle.colour_seeds.specs.declared.progress.Step.{Step}
 use Rattle.colour_seeds.specs.declared.progress.Step.TheVariants.{Seed, Rightward, Leftward, Test}
-use Rattle.colour_seeds.specs.declared.progress.Progress.{Progress}
+use Rattle.colour_seeds.specs.declared.progress.SeedProgress.{SeedProgress}
 use Rattle.colour_seeds.specs.Plan.{is_known, is_seed, seeds_in, progress_after, nothing, LeadsBySteps, IsPlan}
 use Rattle.colour_seeds.specs.Leaves.{leaves}
 use Rattle.colour_seeds.proofs.RowSteps.{row_steps, rightward_ends, leftward_ends}
@@ -91,10 +92,10 @@ by_colour t d c a q grid connected lt at =
     ∙ bound_times c (coloured_so t d c a) (colourings t d) t.order (λ b under. as_frequent t d c b a q grid connected lt under at)
 
 -- later steps leave the colour of a column that is known
-apart : (d : Diagram) (g : Progress) (x c : ℕ) → is_known g c ≡ true → is_known g x ≡ false → c ≢ x
+apart : (d : Diagram) (g : SeedProgress) (x c : ℕ) → is_known g c ≡ true → is_known g x ≡ false → c ≢ x
 apart d g x c known unknown e = both_ways (is_known g x) unknown (ap (is_known g) (sym e) ∙ known)
 
-kept_at : (t : Table) (d : Diagram) (c a : ℕ) (g h : Progress) (steps : List Step) → LeadsBySteps d g steps h → is_known g c ≡ true → (f : List ℕ)
+kept_at : (t : Table) (d : Diagram) (c a : ℕ) (g h : SeedProgress) (steps : List Step) → LeadsBySteps d g steps h → is_known g c ≡ true → (f : List ℕ)
     → get_or f c 0 ≡ a
     → All (λ e. get_or e c 0 ≡ a) (leaves t d steps f)
 kept_at t d c a g h [] leads known f at = All-cons (λ e. get_or e c 0 ≡ a) f [] at (All-nil (λ e. get_or e c 0 ≡ a))
@@ -136,7 +137,8 @@ first_piece s x f zero each =
     let piece = s (set f x 0) in
     let more = count-append (λ e. get_or e x 0 == 0) piece [] in
     let own = count_agree_on (λ e. get_or e x 0 == 0) (λ e. true) piece
-    (All-weaker (λ e. get_or e x 0 ≡ 0) (λ e. (get_or e x 0 == 0) ≡ true) (λ e at. eq-eqb (get_or e x 0) 0 at) piece (each 0 (omega arith))) ∙ count_all piece in
+    (All-weaker (λ e. get_or e x 0 ≡ 0) (λ e. (get_or e x 0 == 0) ≡ true) (λ e at. eq-eqb (get_or e x 0) 0 at) piece (each 0 (omega arith)))
+    ∙ count_all piece in
     omega arith
 first_piece s x f (suc n) each =
     let piece = s (set f x (suc n)) in
@@ -147,7 +149,8 @@ first_piece s x f (suc n) each =
     ap (λ (k : ℕ). count_by (λ e. get_or e x 0 == 0) (flat_map s (spread k x f))) one_more in
     let more = count-append (λ e. get_or e x 0 == 0) (flat_map s (spread (suc n) x f)) piece in
     let own = count_agree_on (λ e. get_or e x 0 == 0) (λ e. false) piece
-    (All-weaker (λ e. get_or e x 0 ≡ suc n) (λ e. (get_or e x 0 == 0) ≡ false) (λ e at. ne_eqb (get_or e x 0) 0 (λ no_more. absurd (omega (arith, at, no_more)))) piece
+    (All-weaker (λ e. get_or e x 0 ≡ suc n) (λ e. (get_or e x 0 == 0) ≡ false)
+    (λ e at. ne_eqb (get_or e x 0) 0 (λ no_more. absurd (omega (arith, at, no_more)))) piece
     (each (suc n) (omega arith))) ∙ count_no (λ e. false) (λ e. refl) piece in
     let whole = ap (λ (l : List (List ℕ)). count_by (λ e. get_or e x 0 == 0) l) longer in
     omega arith
@@ -163,7 +166,8 @@ first_count t d x rest q grid plan =
     let sound = sound_nothing d in
     let long : length (replicate {A = ℕ} MAX_SIZE 0) ≡ MAX_SIZE = length-replicate {A = ℕ} MAX_SIZE 0 in
     let each : (a : ℕ) → a < t.order → All (λ e. get_or e x 0 ≡ a) (leaves t d rest (set (replicate MAX_SIZE 0) x a)) = λ a lt.
-    kept_at t d x a (progress_after d nothing (Seed x)) plan.last rest plan.leads.1 (mark_here nothing.known x (omega (arith, at, sound.known_long))) (set (replicate MAX_SIZE 0) x a)
+    kept_at t d x a (progress_after d nothing (Seed x)) plan.last rest plan.leads.1 (mark_here nothing.known x (omega (arith, at, sound.known_long)))
+    (set (replicate MAX_SIZE 0) x a)
     (get_or-set_same (replicate MAX_SIZE 0) x a 0 (omega (arith, at, long))) in
     let blank : set (replicate MAX_SIZE 0) x 0 ≡ replicate MAX_SIZE 0 =
     ap (λ (v : ℕ). set (replicate MAX_SIZE 0) x v) (sym (get_or-replicate MAX_SIZE x 0 0 at)) ∙ set-get_or (replicate MAX_SIZE 0) x 0 in
@@ -174,7 +178,8 @@ first_count t d x rest q grid plan =
     ∙ same_counts p (cut d level) (colourings t d) (cut_as_often t d q grid level (plan_level t d (Seed x ∷ rest) q grid plan)) (listed_most t d))))
   where
     pieces : (m : ℕ) → 0 < m → ((a : ℕ) → a < m → All (λ e. get_or e x 0 ≡ a) (leaves t d rest (set (replicate MAX_SIZE 0) x a)))
-        → count_by (λ e. get_or e x 0 == 0) (flat_map (leaves t d rest) (spread m x (replicate MAX_SIZE 0))) ≡ length (leaves t d rest (set (replicate MAX_SIZE 0) x 0))
+        → count_by (λ e. get_or e x 0 == 0) (flat_map (leaves t d rest) (spread m x (replicate MAX_SIZE 0)))
+        ≡ length (leaves t d rest (set (replicate MAX_SIZE 0) x 0))
     pieces zero some each = absurd (omega arith)
     pieces (suc n) some each =
         let one_more : suc n ≡ n + 1 = omega arith in

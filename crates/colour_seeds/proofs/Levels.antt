@@ -1,5 +1,6 @@
 -- What the steps of a plan leave, from the list of zeros on, is each list of colours on which all rows close, once.
-use Rattle.std.proofs.Common.{◌≡◌, ◌≢◌, ◌<◌, ◌≤◌, ◌+◌, ◌-◌, ◌++◌, ◌==◌, ◌∙◌, inl, inr, ℕ, List, [], ◌∷◌, Bool, true, false, cond, length, map, take, get_or, set, replicate, nat_lt, refl, sym, ap, subst, arith, append-nil}
+use Rattle.std.proofs.Common.{◌≡◌, ◌≢◌, ◌<◌, ◌≤◌, ◌+◌, ◌-◌, ◌++◌, ◌==◌, ◌∙◌, inl, inr, ℕ, List, [], ◌∷◌, Bool, true, false, cond, length, map, take}
+use Rattle.std.proofs.Common.{get_or, set, replicate, nat_lt, refl, sym, ap, subst, arith, append-nil}
 use Rattle.std.specs.Prelude.{if◌then◌else◌}
 use Rattle.std.specs.List.{All, flat_map, filter, range_with_len}
 use Rattle.std.proofs.lemmas.Bool.{false_from_ne_true, cases_eq, both_ways, lt-ltb, and_from}
@@ -28,20 +29,20 @@ use Rattle.colour_list.proofs.Choices.{listed_most}
 use Rattle.colour_list.proofs.Fewer.{fewer}
 use Rattle.colour_seeds.specs.declared.progress.Step.{Step}
 use Rattle.colour_seeds.specs.declared.progress.Step.TheVariants.{Seed, Rightward, Leftward, Test}
-use Rattle.colour_seeds.specs.declared.progress.Progress.{Progress}
+use Rattle.colour_seeds.specs.declared.progress.SeedProgress.{SeedProgress}
 use Rattle.colour_seeds.specs.Plan.{is_known, is_read, progress_after, nothing, LeadsBySteps, IsAllowed, IsPlan}
 use Rattle.colour_seeds.specs.Leaves.{leaves, lists_after_step}
 use Rattle.colour_seeds.proofs.RowSteps.{row_steps, rightward_ends, leftward_ends}
 use Rattle.colour_seeds.proofs.Ways.{IsSound, marked, mark_new, mark_old, mark_here, nothing_known, sound_after, sound_leads, sound_nothing}
 
 -- what is not known is blank, and the rows that were read close
-abbrev pub IsBlank : Progress → ℕ → Type 0
+abbrev pub IsBlank : SeedProgress → ℕ → Type 0
 IsBlank g c = is_known g c ≡ false
 
-abbrev pub ReadClose : Table → Diagram → Progress → List ℕ → Type 0
+abbrev pub ReadClose : Table → Diagram → SeedProgress → List ℕ → Type 0
 ReadClose t d g f = (r : ℕ) → r < size d → is_read g r ≡ true → closes t d f r ≡ true
 
-abbrev pub IsLevelOf : Table → Diagram → Progress → List (List ℕ) → Type 0
+abbrev pub IsLevelOf : Table → Diagram → SeedProgress → List (List ℕ) → Type 0
 IsLevelOf t d g level = IsLevel MAX_SIZE t.order (IsBlank g) (ReadClose t d g) level
 
 -- the columns that a row passes under cross it
@@ -57,7 +58,7 @@ pub both : (A B : ℕ → Type 0) (xs : List ℕ) → All A xs → All B xs → 
 both A B xs a b = λ k p at. (a k p at, b k p at)
 
 -- a column that is not known is read by no row that was read
-ignored : (t : Table) (d : Diagram) (g : Progress) → IsGrid d → IsSound d g → (c : ℕ) → is_known g c ≡ false → Ignores MAX_SIZE c (ReadClose t d g)
+ignored : (t : Table) (d : Diagram) (g : SeedProgress) → IsGrid d → IsSound d g → (c : ℕ) → is_known g c ≡ false → Ignores MAX_SIZE c (ReadClose t d g)
 ignored t d g grid sound c unknown = λ f a long closed r lt read.
     let all = sound.rows r lt read in
     let e = has_ends d grid r lt in
@@ -70,7 +71,7 @@ ignored t d g grid sound c unknown = λ f a long closed r lt read.
     ∙ closed r lt read
 
 -- a column that is not known becomes known
-opens_at : (d : Diagram) (g : Progress) → IsGrid d → IsSound d g → (c : ℕ) → c < size d → is_known g c ≡ false
+opens_at : (d : Diagram) (g : SeedProgress) → IsGrid d → IsSound d g → (c : ℕ) → c < size d → is_known g c ≡ false
     → Opens c (IsBlank g) (λ x. get_or (set g.known c true) x false ≡ false)
 opens_at d g grid sound c lt unknown = record {
   was = unknown;
@@ -86,7 +87,7 @@ opens_at d g grid sound c lt unknown = record {
 }
 
 -- one row more was read
-read_more : (t : Table) (d : Diagram) (g h : Progress) (r : ℕ) (Blank : ℕ → Type 0) → IsGrid d → IsSound d g → r < size d → h.read ≡ set g.read r true
+read_more : (t : Table) (d : Diagram) (g h : SeedProgress) (r : ℕ) (Blank : ℕ → Type 0) → IsGrid d → IsSound d g → r < size d → h.read ≡ set g.read r true
     → (level : List (List ℕ)) → IsLevel MAX_SIZE t.order Blank (ReadClose t d g) level
     → IsLevel MAX_SIZE t.order Blank (ReadClose t d h) (filter (λ f. closes t d f r) level)
 read_more t d g h r Blank grid sound lt is level l =
@@ -102,7 +103,7 @@ read_more t d g h r Blank grid sound lt is level l =
     ))
     l
 
-level_colours : (t : Table) (d : Diagram) (g : Progress) (level : List (List ℕ)) → IsLevelOf t d g level → All (AreColours MAX_SIZE t.order) level
+level_colours : (t : Table) (d : Diagram) (g : SeedProgress) (level : List (List ℕ)) → IsLevelOf t d g level → All (AreColours MAX_SIZE t.order) level
 level_colours t d g level l = λ k e lt. let m = l.sound k e lt in (m.long, m.below)
 
 flat_map_test : {X : Type 0} (p : X → Bool) (xs : List X) → flat_map (λ x. if p x then x ∷ [] else []) xs ≡ filter p xs
@@ -114,7 +115,7 @@ flat_map_test p (x ∷ xs) = here (p x) (x) (filter p xs) (flat_map (λ x. if p 
     here false x kept rest e = e
 
 -- a step carries its level to the next
-step_level : (t : Table) (d : Diagram) (g : Progress) (s : Step) → IsQuandle t → IsGrid d → IsSound d g → IsAllowed d g s → (level : List (List ℕ))
+step_level : (t : Table) (d : Diagram) (g : SeedProgress) (s : Step) → IsQuandle t → IsGrid d → IsSound d g → IsAllowed d g s → (level : List (List ℕ))
     → IsLevelOf t d g level → IsLevelOf t d (progress_after d g s) (flat_map (lists_after_step t d s) level)
 step_level t d g (Seed c) q grid sound allowed level l =
     let some : 0 < t.order = omega (arith, q.least) in
@@ -165,10 +166,11 @@ map_itself [] = refl
 map_itself (x ∷ xs) = ap (λ ys. x ∷ ys) (map_itself xs)
 
 -- and all steps carry it to the last
-leaves_level : (t : Table) (d : Diagram) → IsQuandle t → IsGrid d → (steps : List Step) (g h : Progress) → IsSound d g → LeadsBySteps d g steps h → (level : List (List ℕ))
+leaves_level : (t : Table) (d : Diagram) → IsQuandle t → IsGrid d → (steps : List Step) (g h : SeedProgress) → IsSound d g → LeadsBySteps d g steps h
+    → (level : List (List ℕ))
     → IsLevelOf t d g level → IsLevelOf t d h (flat_map (leaves t d steps) level)
 leaves_level t d q grid [] g h sound leads level l =
-    subst (IsLevelOf t d h) (sym (map_itself level)) (subst (λ (g : Progress). IsLevelOf t d g level) leads l)
+    subst (IsLevelOf t d h) (sym (map_itself level)) (subst (λ (g : SeedProgress). IsLevelOf t d g level) leads l)
 leaves_level t d q grid (s ∷ steps) g h sound leads level l =
     subst (IsLevelOf t d h) (sym (flat_map_twice (leaves t d steps) (lists_after_step t d s) level))
     (leaves_level t d q grid steps (progress_after d g s) h (sound_after d g s grid sound leads.0) leads.1 (flat_map (lists_after_step t d s) level)

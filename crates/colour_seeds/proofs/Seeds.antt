@@ -1,5 +1,6 @@
 -- The columns that a plan takes as seeds.
-use Rattle.std.proofs.Common.{◌≡◌, ◌<◌, ◌≤◌, ◌+◌, ◌++◌, ◌∙◌, ◌⊎◌, inl, inr, ℕ, List, [], ◌∷◌, Bool, true, false, cond, length, get_or, set, take, drop, count_by, refl, sym, ap, subst, arith, append-nil}
+use Rattle.std.proofs.Common.{◌≡◌, ◌<◌, ◌≤◌, ◌+◌, ◌++◌, ◌∙◌, ◌⊎◌, inl, inr, ℕ, List, [], ◌∷◌, Bool, true, false, cond, length, get_or, set, take}
+use Rattle.std.proofs.Common.{drop, count_by, refl, sym, ap, subst, arith, append-nil}
 use Rattle.std.specs.List.{All, Contains}
 use Rattle.std.proofs.lemmas.Bool.{both_ways}
 use Rattle.std.proofs.lemmas.List.{length-append, take_more, take-append-drop}
@@ -12,7 +13,7 @@ use Rattle.colour_seeds.specs.Settled.{IsClosed, Determine}
 use Rattle.colour_seeds.specs.Seeded.{HasKnown}
 use Rattle.colour_seeds.specs.declared.progress.Step.{Step}
 use Rattle.colour_seeds.specs.declared.progress.Step.TheVariants.{Seed, Rightward, Leftward, Test}
-use Rattle.colour_seeds.specs.declared.progress.Progress.{Progress}
+use Rattle.colour_seeds.specs.declared.progress.SeedProgress.{SeedProgress}
 use Rattle.colour_seeds.specs.Plan.{is_known, is_seed, seeds_in, seed_columns, progress_after, nothing, LeadsBySteps, IsPlan}
 use Rattle.colour_seeds.proofs.RowSteps.{row_steps, rightward_ends, leftward_ends, overs_from}
 use Rattle.colour_seeds.proofs.Ways.{IsSound, sound_after, sound_leads, sound_nothing, nothing_known, only_from}
@@ -71,7 +72,8 @@ pub seed_room : (xs steps : List Step) (i c : ℕ) (d : Step) → xs ≡ steps �
     → length (seed_columns (take i steps)) + 1 ≤ length (seed_columns steps)
 seed_room xs steps i c d is lt at =
     let whole = ap (λ (l : List Step). length (seed_columns l)) (sym (take-append-drop (i + 1) steps))
-    ∙ (ap length (seed_columns_append (take (i + 1) steps) (drop (i + 1) steps)) ∙ length-append (seed_columns (take (i + 1) steps)) (seed_columns (drop (i + 1) steps))) in
+    ∙ (ap length (seed_columns_append (take (i + 1) steps) (drop (i + 1) steps))
+    ∙ length-append (seed_columns (take (i + 1) steps)) (seed_columns (drop (i + 1) steps))) in
     let here = ap length (seed_here xs steps i c d is lt at) ∙ length-append (seed_columns (take i steps)) (c ∷ []) in
     omega (arith, whole, here)
 
@@ -99,9 +101,9 @@ count_new xs i lt e =
     let zero : ◌≡◌ {A = ℕ} (cond (get_or xs i false) 1 0) 0 = ap (λ b. cond b 1 0) e in omega arith
 
 -- each seed is a column more that is known
-seeds_known : (d : Diagram) (g h : Progress) (steps : List Step) → IsGrid d → IsSound d g → LeadsBySteps d g steps h
+seeds_known : (d : Diagram) (g h : SeedProgress) (steps : List Step) → IsGrid d → IsSound d g → LeadsBySteps d g steps h
     → length (seed_columns steps) + count_by (λ b. b) g.known ≤ count_by (λ b. b) h.known
-seeds_known d g h [] grid sound leads = let e = ap (λ (g : Progress). count_by (λ b. b) g.known) leads in omega arith
+seeds_known d g h [] grid sound leads = let e = ap (λ (g : SeedProgress). count_by (λ b. b) g.known) leads in omega arith
 seeds_known d g h (Seed c ∷ steps) grid sound leads =
     let more = seeds_known d (progress_after d g (Seed c)) h steps grid (sound_after d g (Seed c) grid sound leads.0) leads.1 in
     let e = count_new g.known c (omega (arith, leads.0.0, grid.most, sound.known_long)) leads.0.1 in
@@ -119,7 +121,7 @@ seeds_known d g h (Leftward r ∷ steps) grid sound leads =
 seeds_known d g h (Test r ∷ steps) grid sound leads =
     seeds_known d (progress_after d g (Test r)) h steps grid (sound_after d g (Test r) grid sound leads.0) leads.1
 
-pub seeds_fit : (d : Diagram) (steps : List Step) (h : Progress) → IsGrid d → LeadsBySteps d nothing steps h → length (seed_columns steps) ≤ MAX_SIZE
+pub seeds_fit : (d : Diagram) (steps : List Step) (h : SeedProgress) → IsGrid d → LeadsBySteps d nothing steps h → length (seed_columns steps) ≤ MAX_SIZE
 seeds_fit d steps h grid leads =
     let e = seeds_known d nothing h steps grid (sound_nothing d) leads in
     let most = count_by-le-length (λ b. b) h.known in
@@ -127,7 +129,7 @@ seeds_fit d steps h grid leads =
     omega (arith, e, most, sound.known_long)
 
 -- a closed set that has the seeds has what is known
-follow : (d : Diagram) (p : ℕ → Bool) → IsClosed d p → (g h : Progress) (steps : List Step) → LeadsBySteps d g steps h → HasKnown p g
+follow : (d : Diagram) (p : ℕ → Bool) → IsClosed d p → (g h : SeedProgress) (steps : List Step) → LeadsBySteps d g steps h → HasKnown p g
     → All (λ s. p s ≡ true) (seed_columns steps) → HasKnown p h
 follow d p closed g h [] leads has seeds = subst (HasKnown p) leads has
 follow d p closed g h (Seed c ∷ steps) leads has seeds =
@@ -147,7 +149,7 @@ follow d p closed g h (Leftward r ∷ steps) leads has seeds =
     (closed.leftward r leads.0.0 (λ c at over. has c (overs_from d g r row.overs c at over)) (has (right d r) sides.1))) seeds
 follow d p closed g h (Test r ∷ steps) leads has seeds = follow d p closed (progress_after d g (Test r)) h steps leads.1 has seeds
 
-seeds_inside : (d : Diagram) (g h : Progress) (steps : List Step) → LeadsBySteps d g steps h → All (λ s. s < size d) (seed_columns steps)
+seeds_inside : (d : Diagram) (g h : SeedProgress) (steps : List Step) → LeadsBySteps d g steps h → All (λ s. s < size d) (seed_columns steps)
 seeds_inside d g h [] leads = All-nil (λ s. s < size d)
 seeds_inside d g h (Seed c ∷ steps) leads =
     All-cons (λ s. s < size d) c (seed_columns steps) leads.0.0 (seeds_inside d (progress_after d g (Seed c)) h steps leads.1)

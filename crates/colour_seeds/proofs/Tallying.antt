@@ -1,5 +1,6 @@
 -- Counts of lists of colours, and how many lists the steps make.
-use Rattle.std.proofs.Common.{◌≡◌, ◌<◌, ◌≤◌, ◌+◌, ◌*◌, ◌^◌, ◌++◌, ◌∙◌, ℕ, zero, suc, List, [], ◌∷◌, Bool, true, false, cond, length, map, take, drop, get_or, set, count_by, refl, sym, ap, subst, arith, add-one}
+use Rattle.std.proofs.Common.{◌≡◌, ◌<◌, ◌≤◌, ◌*◌, ◌^◌, ◌++◌, ◌∙◌, ℕ, zero, suc, List, [], ◌∷◌, Bool, true, false, cond, length, take, drop}
+use Rattle.std.proofs.Common.{get_or, set, count_by, refl, sym, ap, subst, arith, add-one}
 use Rattle.std.specs.List.{All, filter, flat_map}
 use Rattle.std.proofs.Math.Nat.{pow-zero}
 use Rattle.std.proofs.lemmas.Bool.{both_ways}
@@ -30,7 +31,8 @@ by_place n xs ys long as_long same = same_number_lists xs ys (long ∙ sym as_lo
 pub each_length : (s : List ℕ → List (List ℕ)) (m c : ℕ) (f : List ℕ) → ((g : List ℕ) → length (s g) ≤ m) → (n : ℕ) → length (flat_map s (spread n c f)) ≤ n * m
 each_length s m c f each zero = omega arith
 each_length s m c f each (suc n) =
-    let e = ap length (ap (λ (k : ℕ). flat_map s (spread k c f)) (sym (add-one n)) ∙ spread_more s c n f) ∙ length-append (flat_map s (spread n c f)) (s (set f c n)) in
+    let e = ap length (ap (λ (k : ℕ). flat_map s (spread k c f)) (sym (add-one n)) ∙ spread_more s c n f)
+    ∙ length-append (flat_map s (spread n c f)) (s (set f c n)) in
     let so_far = each_length s m c f each n in
     let here = each (set f c n) in
     let times = ap (λ (k : ℕ). k * m) (sym (add-one n)) ∙ one_times n m in
@@ -77,13 +79,15 @@ same_once p xs ys same f false e =
 at_most_once : (p : List ℕ → Bool) (ys : List (List ℕ)) → ((f : List ℕ) → times f ys ≤ 1) → (f : List ℕ) → (b : Bool) → p f ≡ b → times f (filter p ys) ≤ 1
 at_most_once p ys once f true e = let h = times_filter p f e ys in let k = once f in omega arith
 at_most_once p ys once f false e =
-    let h : times f (filter p ys) ≡ 0 = none (times f (filter p ys)) (λ some. both_ways (p f) e (came (λ g. p g ≡ true) f (filter p ys) (filter_passes p ys) some)) in
+    let h : times f (filter p ys) ≡ 0 = none (times f (filter p ys)) (λ some. both_ways (p f) e
+    (came (λ g. p g ≡ true) f (filter p ys) (filter_passes p ys) some)) in
     omega arith
   where
     none : (n : ℕ) → (0 < n → ⊥) → n ≡ 0
     none n no_more = omega (arith, no_more)
 
-pub same_counts : (p : List ℕ → Bool) (xs ys : List (List ℕ)) → ((f : List ℕ) → times f xs ≡ times f ys) → ((f : List ℕ) → times f ys ≤ 1) → count_by p xs ≡ count_by p ys
+pub same_counts : (p : List ℕ → Bool) (xs ys : List (List ℕ)) → ((f : List ℕ) → times f xs ≡ times f ys) → ((f : List ℕ) → times f ys ≤ 1)
+    → count_by p xs ≡ count_by p ys
 same_counts p xs ys same once =
     sym (length-filter p xs)
     ∙ (equally_many (filter p xs) (filter p ys) (λ f. same_once p xs ys same f (p f) refl) (λ f. at_most_once p ys once f (p f) refl) ∙ length-filter p ys)

@@ -1,5 +1,6 @@
 -- Where steps lead: what is known behind them, and what that follows from.
-use Rattle.std.proofs.Common.{◌≡◌, ◌<◌, ◌+◌, ◌++◌, ◌∙◌, ◌⊎◌, inl, inr, ℕ, List, [], ◌∷◌, Bool, true, false, cond, not, Option, Some, None, length, get_or, set, replicate, count_by, refl, sym, ap, subst, arith}
+use Rattle.std.proofs.Common.{◌≡◌, ◌<◌, ◌+◌, ◌++◌, ◌∙◌, ◌⊎◌, inl, inr, ℕ, List, [], ◌∷◌, Bool, true, false, cond, not, Option, Some, None, length}
+use Rattle.std.proofs.Common.{get_or, set, replicate, count_by, refl, sym, ap, subst, arith}
 use Rattle.std.specs.List.{range_with_len}
 use Rattle.std.proofs.lemmas.List.FromFn.{get_or-range_with_len, length-range_with_len}
 use Rattle.std.proofs.lemmas.List.Elements.{All-get_or}
@@ -15,7 +16,7 @@ use Rattle.colour_seeds.specs.declared.seeding.SeedFault.{SeedFault}
 use Rattle.colour_seeds.specs.declared.seeding.SeedFault.TheVariants.{Outside, Unsettled, OutOfMemory}
 use Rattle.colour_seeds.specs.declared.progress.Step.{Step}
 use Rattle.colour_seeds.specs.declared.progress.Step.TheVariants.{Seed, Rightward, Leftward, Test}
-use Rattle.colour_seeds.specs.declared.progress.Progress.{Progress}
+use Rattle.colour_seeds.specs.declared.progress.SeedProgress.{SeedProgress}
 use Rattle.colour_seeds.specs.Plan.{is_known, is_read, by_ends, row_step, next_step, progress_after, nothing, LeadsBySteps, IsAllowed, is_seed, seeds_in}
 use Rattle.colour_seeds.proofs.RowSteps.{row_steps, rightward_ends, leftward_ends, test_ends, overs_from, next_allowed, idle_row}
 
@@ -50,42 +51,46 @@ pub mark_here : (xs : List Bool) (i : ℕ) → i < length xs → get_or (set xs 
 mark_here xs i lt = get_or-set_same xs i true false lt
 
 -- a row's columns are all known
-pub record HasAll (d : Diagram) (g : Progress) (r : ℕ) : Type 0 where
+pub record HasAll (d : Diagram) (g : SeedProgress) (r : ℕ) : Type 0 where
   pub at_left : is_known g (left d r) ≡ true
   pub at_right : is_known g (right d r) ≡ true
   pub overs : HasOvers d (is_known g) r
 
 -- only columns are known, and rows that were read have known columns
-pub record IsSound (d : Diagram) (g : Progress) : Type 0 where
+pub record IsSound (d : Diagram) (g : SeedProgress) : Type 0 where
   pub known_long : length g.known ≡ MAX_SIZE
   pub read_long : length g.read ≡ MAX_SIZE
   pub inside : (c : ℕ) → is_known g c ≡ true → c < size d
   pub rows : (r : ℕ) → r < size d → is_read g r ≡ true → HasAll d g r
 
-has_more : (d : Diagram) (g h : Progress) (r : ℕ) → HasKnown (is_known h) g → HasAll d g r → HasAll d h r
-has_more d g h r keeps all = record { at_left = keeps (left d r) all.at_left; at_right = keeps (right d r) all.at_right; overs = λ c lt over. keeps c (all.overs c lt over) }
+has_more : (d : Diagram) (g h : SeedProgress) (r : ℕ) → HasKnown (is_known h) g → HasAll d g r → HasAll d h r
+has_more d g h r keeps all = record {
+  at_left = keeps (left d r) all.at_left;
+  at_right = keeps (right d r) all.at_right;
+  overs = λ c lt over. keeps c (all.overs c lt over);
+}
 
 -- a step keeps what is known
-pub step_keeps : (d : Diagram) (g : Progress) (s : Step) → HasKnown (is_known (progress_after d g s)) g
+pub step_keeps : (d : Diagram) (g : SeedProgress) (s : Step) → HasKnown (is_known (progress_after d g s)) g
 step_keeps d g (Seed c) x e = marked g.known c x e
 step_keeps d g (Rightward r) x e = marked g.known (right d r) x e
 step_keeps d g (Leftward r) x e = marked g.known (left d r) x e
 step_keeps d g (Test r) x e = e
 
-read_row : (d : Diagram) (g h : Progress) (r : ℕ) → IsSound d g → HasKnown (is_known h) g → h.read ≡ set g.read r true → HasAll d h r
+read_row : (d : Diagram) (g h : SeedProgress) (r : ℕ) → IsSound d g → HasKnown (is_known h) g → h.read ≡ set g.read r true → HasAll d h r
     → (s : ℕ) → s < size d → is_read h s ≡ true → HasAll d h s
 read_row d g h r sound keeps is here s lt e = elim (mark_new g.read r s (ap (λ (xs : List Bool). get_or xs s false) (sym is) ∙ e)) [
   | inl same ↦ subst (HasAll d h) (sym same) here
   | inr before ↦ has_more d g h s keeps (sound.rows s lt before)
 ]
 
-known_inside : (d : Diagram) (g : Progress) (x : ℕ) → IsSound d g → x < size d → (c : ℕ) → get_or (set g.known x true) c false ≡ true → c < size d
+known_inside : (d : Diagram) (g : SeedProgress) (x : ℕ) → IsSound d g → x < size d → (c : ℕ) → get_or (set g.known x true) c false ≡ true → c < size d
 known_inside d g x sound lt c e = elim (mark_new g.known x c e) [
   | inl same ↦ omega (arith, same)
   | inr before ↦ sound.inside c before
 ]
 
-pub sound_after : (d : Diagram) (g : Progress) (s : Step) → IsGrid d → IsSound d g → IsAllowed d g s → IsSound d (progress_after d g s)
+pub sound_after : (d : Diagram) (g : SeedProgress) (s : Step) → IsGrid d → IsSound d g → IsAllowed d g s → IsSound d (progress_after d g s)
 sound_after d g (Seed c) grid sound allowed = record {
   known_long = length-set g.known c true ∙ sound.known_long;
   read_long = sound.read_long;
@@ -134,7 +139,7 @@ sound_after d g (Test r) grid sound allowed =
       rows = read_row d g h r sound (λ c e. e) refl (record { at_left = sides.0; at_right = sides.1; overs = overs_from d g r steps.overs });
     }
 
-pub sound_leads : (d : Diagram) (g h : Progress) (steps : List Step) → IsGrid d → IsSound d g → LeadsBySteps d g steps h → IsSound d h
+pub sound_leads : (d : Diagram) (g h : SeedProgress) (steps : List Step) → IsGrid d → IsSound d g → LeadsBySteps d g steps h → IsSound d h
 sound_leads d g h [] grid sound leads = subst (IsSound d) leads sound
 sound_leads d g h (s ∷ steps) grid sound leads = sound_leads d (progress_after d g s) h steps grid (sound_after d g s grid sound leads.0) leads.1
 
@@ -159,20 +164,20 @@ pub nothing_known : (c : ℕ) → is_known nothing c ≡ false
 nothing_known c = none_marked MAX_SIZE c
 
 -- one step more
-pub leads_more : (d : Diagram) (g h : Progress) (steps : List Step) (s : Step) → LeadsBySteps d g steps h → IsAllowed d h s
+pub leads_more : (d : Diagram) (g h : SeedProgress) (steps : List Step) (s : Step) → LeadsBySteps d g steps h → IsAllowed d h s
     → LeadsBySteps d g (steps ++ s ∷ []) (progress_after d h s)
-leads_more d g h [] s leads allowed = (subst (λ (h : Progress). IsAllowed d h s) (sym leads) allowed, ap (λ (h : Progress). progress_after d h s) leads)
+leads_more d g h [] s leads allowed = (subst (λ (h : SeedProgress). IsAllowed d h s) (sym leads) allowed, ap (λ (h : SeedProgress). progress_after d h s) leads)
 leads_more d g h (t ∷ steps) s leads allowed = (leads.0, leads_more d (progress_after d g t) h steps s leads.1 allowed)
 
 pub seeds_more : (steps : List Step) (s : Step) → seeds_in (steps ++ s ∷ []) ≡ seeds_in steps + cond (is_seed s) 1 0
 seeds_more steps s = let e = sum_by-append (λ s. cond (is_seed s) 1 0) steps (s ∷ []) in omega (arith, e)
 
 -- how many rows were not read
-abbrev pub unread : Progress → ℕ
+abbrev pub unread : SeedProgress → ℕ
 unread g = count_by not g.read
 
 -- what is known of the step of a row
-pub record Next (d : Diagram) (g : Progress) (s : Step) : Type 0 where
+pub record Next (d : Diagram) (g : SeedProgress) (s : Step) : Type 0 where
   pub allowed : IsAllowed d g s
   pub no_seed : is_seed s ≡ false
   pub only : (p : ℕ → Bool) → IsClosed d p → HasKnown p g → HasKnown p (progress_after d g s)
@@ -191,13 +196,14 @@ fewer_unread xs r lt e =
     let one : ◌≡◌ {A = ℕ} (cond (not (get_or xs r false)) 1 0) 1 = ap (λ b. cond (not b) 1 0) e in
     omega (arith, h, one)
 
-pub only_from : (d : Diagram) (p : ℕ → Bool) (g : Progress) (x : ℕ) → HasKnown p g → p x ≡ true → (c : ℕ) → get_or (set g.known x true) c false ≡ true → p c ≡ true
+pub only_from : (d : Diagram) (p : ℕ → Bool) (g : SeedProgress) (x : ℕ) → HasKnown p g → p x ≡ true → (c : ℕ) → get_or (set g.known x true) c false ≡ true
+    → p c ≡ true
 only_from d p g x has here c e = elim (mark_new g.known x c e) [
   | inl same ↦ ap p same ∙ here
   | inr before ↦ has c before
 ]
 
-pub next_of : (d : Diagram) (g : Progress) (s : Step) → IsGrid d → IsSound d g → next_step d g ≡ Some s → Next d g s
+pub next_of : (d : Diagram) (g : SeedProgress) (s : Step) → IsGrid d → IsSound d g → next_step d g ≡ Some s → Next d g s
 next_of d g s grid sound e =
     let from = next_allowed d g s e in
     let r = from.0 in
@@ -222,22 +228,23 @@ next_of d g s grid sound e =
     from.2
 
 -- each progress reaches itself, and what it reaches goes on by a row's step
-pub reaches_itself : (d : Diagram) (g : Progress) → Reaches d g g
+pub reaches_itself : (d : Diagram) (g : SeedProgress) → Reaches d g g
 reaches_itself d g = record { keeps = λ c e. e; only = λ p closed from. from }
 
-pub reaches_more : (d : Diagram) (g h : Progress) (s : Step) → Next d h s → Reaches d g h → Reaches d g (progress_after d h s)
+pub reaches_more : (d : Diagram) (g h : SeedProgress) (s : Step) → Next d h s → Reaches d g h → Reaches d g (progress_after d h s)
 reaches_more d g h s next r = record {
   keeps = λ c e. step_keeps d h s c (r.keeps c e);
   only = λ p closed from. next.only p closed (r.only p closed from);
 }
 
 -- what is known where no row does anything is closed
-closed_by : (d : Diagram) (g : Progress) → IsSound d g → next_step d g ≡ None → (r : ℕ) → r < size d → HasOvers d (is_known g) r → (b : Bool) → is_read g r ≡ b
+closed_by : (d : Diagram) (g : SeedProgress) → IsSound d g → next_step d g ≡ None → (r : ℕ) → r < size d → HasOvers d (is_known g) r → (b : Bool)
+    → is_read g r ≡ b
     → HasAll d g r ⊎ ((is_known g (left d r) ≡ false) × (is_known g (right d r) ≡ false))
 closed_by d g sound stuck r lt has true e = inl (sound.rows r lt e)
 closed_by d g sound stuck r lt has false e = inr (idle_row d g stuck r lt has e)
 
-pub known_closed : (d : Diagram) (g : Progress) → IsSound d g → next_step d g ≡ None → IsClosed d (is_known g)
+pub known_closed : (d : Diagram) (g : SeedProgress) → IsSound d g → next_step d g ≡ None → IsClosed d (is_known g)
 known_closed d g sound stuck = record {
   rightward = λ r lt has at. elim (closed_by d g sound stuck r lt has (is_read g r) refl) [
     | inl all ↦ all.at_right
@@ -250,7 +257,7 @@ known_closed d g sound stuck = record {
 }
 
 -- where all columns are known and no row does anything, each row was read
-pub all_read : (d : Diagram) (g : Progress) → IsGrid d → next_step d g ≡ None → ((c : ℕ) → c < size d → is_known g c ≡ true) → (r : ℕ) → r < size d
+pub all_read : (d : Diagram) (g : SeedProgress) → IsGrid d → next_step d g ≡ None → ((c : ℕ) → c < size d → is_known g c ≡ true) → (r : ℕ) → r < size d
     → (b : Bool) → is_read g r ≡ b → is_read g r ≡ true
 all_read d g grid stuck known r lt true e = e
 all_read d g grid stuck known r lt false e =
@@ -259,7 +266,8 @@ all_read d g grid stuck known r lt false e =
     absurd (both_ways (is_known g (right d r)) none.1 (known (right d r) ends.within))
 
 -- the same of a way, whose steps lead from nothing
-pub step_next : (d : Diagram) (steps : List Step) (g : Progress) (s : Step) (found : Option Step) → IsGrid d → LeadsBySteps d nothing steps g → found ≡ next_step d g → found ≡ Some s
+pub step_next : (d : Diagram) (steps : List Step) (g : SeedProgress) (s : Step) (found : Option Step) → IsGrid d → LeadsBySteps d nothing steps g
+    → found ≡ next_step d g → found ≡ Some s
     → Next d g s
 step_next d steps g s found grid leads is some = next_of d g s grid (sound_leads d nothing g steps grid (sound_nothing d) leads) (sym is ∙ some)
 
@@ -272,7 +280,8 @@ pub one_seed_more : (before after : List Step) (c : ℕ) → after ≡ before ++
 one_seed_more before after c is = ap seeds_in is ∙ seeds_more before (Seed c)
 
 -- a seed more
-pub seed_reaches : (d : Diagram) (g h : Progress) (c : ℕ) → Reaches d (progress_after d g (Seed c)) h → (p : ℕ → Bool) → IsClosed d p → HasKnown p g → p c ≡ true → HasKnown p h
+pub seed_reaches : (d : Diagram) (g h : SeedProgress) (c : ℕ) → Reaches d (progress_after d g (Seed c)) h → (p : ℕ → Bool) → IsClosed d p → HasKnown p g
+    → p c ≡ true → HasKnown p h
 seed_reaches d g h c reaches p closed has here = reaches.only p closed (λ x e. only_from d p g c has here x e)
 
 -- where the seeds are all columns, memory alone can fail

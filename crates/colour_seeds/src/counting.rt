@@ -16,7 +16,7 @@ ghost use Rattle.colour_seeds.specs.Leaves.{IsInside, leaves};
 use crate::connected::is_connected;
 use crate::progress::Step;
 use crate::seeding::Seeding;
-use crate::settling::{Colours, closes, row_at, settle_left, settle_right};
+use crate::settling::{SettledColours, passes};
 use colour_rows::{Row, Spans};
 use grid_core::{Grid, MAX_SIZE};
 use quandle_core::Operations;
@@ -55,7 +55,7 @@ impl From<AllocFailed<u32>> for CountFault {
 }
 
 /// Whether so many colours can be chosen in at most `MAX_CANDIDATES` ways: the order of the quandle to the power of their number. Takes no memory.
-pub fn fits(quandle: &Operations, choices: usize) -> bool
+pub fn few_ways(quandle: &Operations, choices: usize) -> bool
     ensures { result ≡ few_ways quandle.now choices }
 {
     let _order = quandle.order();
@@ -79,7 +79,7 @@ pub fn count(
 {
     let _size = grid.size();
     let _order = quandle.order();
-    if !fits(quandle, seeding.seeds().len()) {
+    if !few_ways(quandle, seeding.seeds().len()) {
         return Err(CountFault::TooWide);
     }
     let rows = rows_of(alloc, grid)?;
@@ -123,7 +123,7 @@ fn count_from(
     rows: &[Row],
     quandle: &Operations,
     steps: &[Step],
-    colours: &mut Colours,
+    colours: &mut SettledColours,
 ) -> u32
     requires rows { rows.now ≡ map (equation grid.now) (range_with_len 0 (size grid.now)) }
     requires inside { All (IsInside grid.now) steps.now }
@@ -137,27 +137,13 @@ fn count_from(
     let Some((step, rest)) = steps.split_first() else {
         return 1;
     };
-    match *step {
-        Step::Seed { column } => count_each(grid, rows, quandle, rest, colours, column),
-        Step::Rightward { row } => {
-            let line = row_at(grid, rows, row);
-            settle_right(line, quandle, colours);
-            count_from(grid, rows, quandle, rest, colours)
-        }
-        Step::Leftward { row } => {
-            let line = row_at(grid, rows, row);
-            settle_left(line, quandle, colours);
-            count_from(grid, rows, quandle, rest, colours)
-        }
-        Step::Test { row } => {
-            let line = row_at(grid, rows, row);
-            if closes(line, quandle, colours) {
-                count_from(grid, rows, quandle, rest, colours)
-            } else {
-                0
-            }
-        }
+    if let Some(column) = step.seed() {
+        return count_each(grid, rows, quandle, rest, colours, column);
     }
+    if !passes(grid, rows, quandle, *step, colours) {
+        return 0;
+    }
+    count_from(grid, rows, quandle, rest, colours)
 }
 
 /// How many lists of colours the steps make of one, added up over each colour of a seed.
@@ -167,7 +153,7 @@ fn count_each(
     rows: &[Row],
     quandle: &Operations,
     steps: &[Step],
-    colours: &Colours,
+    colours: &SettledColours,
     column: u8,
 ) -> u32
     requires rows { rows.now ≡ map (equation grid.now) (range_with_len 0 (size grid.now)) }

@@ -9,7 +9,7 @@ mod seeking;
 pub mod settling;
 
 pub use connected::is_connected;
-pub use counting::{CountFault, MAX_CANDIDATES, count, fits, rows_of};
+pub use counting::{CountFault, MAX_CANDIDATES, count, few_ways, rows_of};
 pub use progress::Step;
 pub use seeding::{SeedFault, Seeding};
 pub use seeking::seeds_of;

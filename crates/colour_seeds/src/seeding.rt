@@ -6,7 +6,7 @@ ghost use Rattle.colour_seeds.specs.Settled.{Determine, IsClosed, IsSettled};
 ghost use Rattle.colour_seeds.specs.Plan.{IsAllowed, IsPlan, LeadsBySteps, progress_after, is_known, next_step, nothing, seed_columns, seeds_in};
 ghost use Rattle.colour_seeds.specs.Seeded.{HasKnown, IsFault, Reaches};
 
-use crate::progress::{Progress, Step, next_step, take_step};
+use crate::progress::{SeedProgress, Step, next_step, take_step};
 use arrayvec::ArrayVec;
 use grid_core::{Grid, MAX_SIZE};
 use std::alloc::{AllocFailed, Global};
@@ -106,7 +106,7 @@ impl Seeding {
 #[derive(Drop)]
 struct Way {
     steps: Vec<Step>,
-    progress: Progress,
+    progress: SeedProgress,
 }
 
 /// The steps by which the seeds settle all columns that they do settle, and what is known and read behind them.
@@ -121,7 +121,7 @@ fn way_of(alloc: Global, grid: &Grid, seeds: &[u8]) -> Result<Way, AllocFailed<S
 {
     let mut way = Way {
         steps: Vec::new(alloc),
-        progress: Progress {
+        progress: SeedProgress {
             known: [false; MAX_SIZE],
             read: [false; MAX_SIZE],
         },

@@ -68,9 +68,16 @@ fn few_columns(grid: &Grid) -> ArrayVec<u8, MAX_SIZE> {
             found = seek(rows.as_slice(), grid.size(), 0, 0, count);
         }
     }
+    columns_of(found, grid.size())
+}
+
+/// The columns of a mask, from the left.
+fn columns_of(mask: u64, size: u8) -> ArrayVec<u8, MAX_SIZE>
+    requires { size ≤ MAX_SIZE }
+{
     let mut columns = ArrayVec::new();
-    for column in 0..grid.size() {
-        if (found >> column) & 1 == 1 {
+    for column in 0..size {
+        if (mask >> column) & 1 == 1 {
             columns.push(column);
         }
     }
@@ -98,11 +105,7 @@ fn seek(rows: &[RowMask], size: u8, chosen: u64, from: u8, more: u8) -> u64
     requires size { size ≤ MAX_SIZE }
 {
     if more == 0 {
-        return if settles(rows, size, chosen) {
-            chosen
-        } else {
-            0
-        };
+        return if_settles(rows, size, chosen);
     }
     for column in from..size {
         let found = seek(rows, size, chosen | (1u64 << column), column + 1, more - 1);
@@ -113,11 +116,16 @@ fn seek(rows: &[RowMask], size: u8, chosen: u64, from: u8, more: u8) -> u64
     0
 }
 
-/// Whether all columns are settled by those of a mask.
-fn settles(rows: &[RowMask], size: u8, chosen: u64) -> bool
+/// A mask whose columns settle all, else 0.
+fn if_settles(rows: &[RowMask], size: u8, chosen: u64) -> u64
     requires size { size ≤ MAX_SIZE }
 {
-    reached(rows, chosen) == (1u64 << size) - 1
+    let all = (1u64 << size) - 1;
+    if reached(rows, chosen) == all {
+        chosen
+    } else {
+        0
+    }
 }
 
 /// The columns that those of a mask settle.

@@ -2,7 +2,8 @@
 use Rattle.std.proofs.Common.{◌≡◌, ◌≢◌, ◌∙◌, ◌<◌, ◌≤◌, ◌+◌, ◌||◌, ℕ, zero, suc, List, [], ◌∷◌, map, ap, ap₂, sym, refl, arith, inl, inr, subst, cond}
 use Rattle.std.specs.Prelude.{Bool, true, false, nat_lt, ◌==◌}
 use Rattle.std.proofs.lemmas.Bool.{cases_Bool, cases_eq, cases_lt, eq-eqb, ne_eqb, eqb-true, false≢true, lt-ltb, le-ltb}
-use Rattle.colour_laws.proofs.ColumnLists.{Acts, Column, ends, crossed, crosses, rises, relabel, corner_row, raised, short, long, with_block, IsMarkAt, IsColoured}
+use Rattle.colour_laws.proofs.ColumnLists.{Acts, Column, ends, crossed, crosses, rises, relabel, corner_row, raised, short, long}
+use Rattle.colour_laws.proofs.ColumnLists.{with_block, IsMarkAt, IsColoured}
 use Rattle.colour_laws.proofs.Actions.{crossed_fixed}
 use Rattle.colour_laws.proofs.Rows.{on_at, row_at, row_end, row_apart, on_end, on_apart, row_walk}
 use Rattle.colour_laws.proofs.Stabilise.{two_rows, lifts, under, level_with, above, raised_lt, raised_eq, there, here, or_tests, IsElsewhere, IsHere}

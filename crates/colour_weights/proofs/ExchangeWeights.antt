@@ -13,7 +13,8 @@ use Rattle.grid_moves.proofs.OneResult.{step_moved}
 use Rattle.colour_rows.specs.Colouring.{IsColouring}
 use Rattle.colour_laws.specs.Carried.{carried}
 use Rattle.colour_laws.proofs.ColumnLists.{Acts, Column, IsColoured, IsInside, relabel, recolour, rises, swapped}
-use Rattle.colour_laws.proofs.ColouredColumns.{act, columns, IsMarked, IsColouringByColumns, ys_of, across, AreRowsTradable, IsTradable, IsTradableAt, columns_traded, neighbours_traded, pair_traded, traded_colours}
+use Rattle.colour_laws.proofs.ColouredColumns.{act, columns, IsMarked, IsColouringByColumns, ys_of, across, AreRowsTradable, IsTradable, IsTradableAt}
+use Rattle.colour_laws.proofs.ColouredColumns.{columns_traded, neighbours_traded, pair_traded, traded_colours}
 use Rattle.colour_laws.proofs.Actions.{redo}
 use Rattle.colour_laws.proofs.Tables.{act_acts}
 use Rattle.colour_laws.proofs.Marked.{marked_columns, columns_marked, ys_of_columns, inside}

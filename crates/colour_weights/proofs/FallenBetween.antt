@@ -16,7 +16,8 @@ use Rattle.colour_weights.proofs.ModSums.{plain, turn, by_one, by_two, by_five}
 use Rattle.colour_weights.proofs.RowSums.{Weighs, before, after, gained, gains, beside, sum_on, sum_row}
 use Rattle.colour_weights.proofs.Gains.{there_back, gained_carried, gained_carries, gained_own}
 use Rattle.colour_weights.proofs.RowSteps.{sum_on_end, sum_on_apart, sum_row_end, sum_row_apart, right_height, left_height, left_right, left_left, right_meet}
-use Rattle.colour_weights.proofs.Over.{over_term, over_on, over_all, over_on_end, over_on_apart, over_on_sides, over_right, over_left, over_right_end, over_left_end, span_parts, no_more}
+use Rattle.colour_weights.proofs.Over.{over_term, over_on, over_all, over_on_end, over_on_apart, over_on_sides, over_right, over_left, over_right_end}
+use Rattle.colour_weights.proofs.Over.{over_left_end, span_parts, no_more}
 use Rattle.colour_weights.proofs.FallenRows.{beside_kept, right_beside, right_gain, sum_on_dropped, sum_row_dropped}
 
 -- a row s + 1 that falls to row s, of a grid of n rows

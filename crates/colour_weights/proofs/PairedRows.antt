@@ -17,7 +17,8 @@ use Rattle.colour_weights.proofs.Gains.{gained_carries}
 use Rattle.colour_weights.proofs.RowSteps.{sum_on_end, sum_on_apart, sum_row_end, sum_row_apart, gains_above, left_right, left_left, right_meet}
 use Rattle.colour_weights.proofs.Over.{no_more}
 use Rattle.colour_weights.proofs.WeightedLevel.{end_gain, end_crosses, start_gain, start_crosses, crossed_before, crossed_after}
-use Rattle.colour_weights.proofs.Relabelled.{sum_turned, turned_end, turned_apart, sum_on_clear, turned_clear, turned_above, swapped_order, swapped_up, swapped_down}
+use Rattle.colour_weights.proofs.Relabelled.{sum_turned, turned_end, turned_apart, sum_on_clear, turned_clear, turned_above}
+use Rattle.colour_weights.proofs.Relabelled.{swapped_order, swapped_up, swapped_down}
 
 -- the next mark of row r stands before that of row s, or in the same column
 abbrev pub is_first : ℕ → ℕ → List Column → Bool

@@ -1,4 +1,5 @@
--- Colours of the regions of a diagram, that the columns and rows cut the plane into: shadow colourings (Fenn, Rourke and Sanderson 1995; Carter, Kamada and Saito 2001).
+-- Colours of the regions of a diagram, that the columns and rows cut the plane into: shadow colourings
+-- (Fenn, Rourke and Sanderson 1995; Carter, Kamada and Saito 2001).
 -- Passing a strand of colour y from its right-hand side to its left-hand side takes a region of colour w to one of colour w ▷ y.
 use Rattle.std.specs.Prelude.{ℕ, ◌+◌, List, filter, fold, if◌then◌else◌}
 use Rattle.std.specs.List.{range_with_len}

@@ -1,4 +1,5 @@
--- The weight of a colouring with a colour of the outer region by a shadow cocycle: the sum, over all crossings, of the sign times θ(w, x, y) (Carter, Kamada and Saito 2001).
+-- The weight of a colouring with a colour of the outer region by a shadow cocycle: the sum, over all crossings, of the sign
+-- times θ(w, x, y) (Carter, Kamada and Saito 2001).
 use Rattle.std.specs.Prelude.{ℕ, ◌+◌, ◌-◌, ◌%◌, not, List, filter, slice_index, if◌then◌else◌}
 use Rattle.std.specs.List.{range_with_len, sum_by}
 use Rattle.grid_core.specs.Diagram.{Diagram, size}

@@ -16,7 +16,8 @@ abbrev pub positive_sum : Cochain → Diagram → List ℕ → ℕ
 positive_sum w d colours = sum_by (λ r. sum_by (λ c. crossing_value w d colours c r) (filter (λ c. is_positive d c r) (passed d r))) (range_with_len 0 (size d))
 
 abbrev pub negative_sum : Cochain → Diagram → List ℕ → ℕ
-negative_sum w d colours = sum_by (λ r. sum_by (λ c. crossing_value w d colours c r) (filter (λ c. not (is_positive d c r)) (passed d r))) (range_with_len 0 (size d))
+negative_sum w d colours = sum_by (λ r. sum_by (λ c. crossing_value w d colours c r) (filter (λ c. not (is_positive d c r)) (passed d r)))
+    (range_with_len 0 (size d))
 
 abbrev pub weight : Cochain → Diagram → List ℕ → ℕ
 weight w d colours = difference w.modulus (positive_sum w d colours) (negative_sum w d colours)

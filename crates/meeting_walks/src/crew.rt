@@ -72,7 +72,7 @@ impl Crew {
         }
     }
 
-    /// Begins a round, and answers the steps that it allows; or None where no worker has steps to make.
+    /// Begins a round, and returns the steps that it allows; or None where no worker has steps to make.
     fn next_limit(&mut self) -> Option<u64> {
         let most = self.most_steps();
         if self.is_done(most) {
@@ -122,7 +122,7 @@ impl Crew {
         }
     }
 
-    /// What the worker with the fewest steps has found, or None where none has. Want of memory in one of them is an error.
+    /// What the worker with the fewest steps has found, or None where none has. It is an error if memory ran out in one of them.
     pub(crate) fn found(&self, alloc: Global) -> Result<Option<Found>, OutOfMemory> {
         if self.is_out_of_memory() {
             return Err(OutOfMemory);
@@ -159,7 +159,7 @@ fn workers_of(
     Ok(workers)
 }
 
-/// The steps that a round allows behind one that allowed so many, where no worker has a say after the most.
+/// The steps that a round allows after one that allowed so many, where no worker has a say after the most.
 fn limit_after(limit: u64, most: u64) -> u64
     ensures { result ≡ limit_after limit most }
 {

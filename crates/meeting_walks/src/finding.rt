@@ -18,15 +18,15 @@ use std::thread::Threads;
 use torus_grids::shortened;
 
 /// A list of moves that joins the first diagram to the second: each is legal where it is made, and the last one leads to the second
-/// diagram. Or None where the search ends without one; or want of memory, which is the only error.
+/// diagram. Or None where the search ends without one; or the only error, that memory ran out.
 ///
 /// Translates are joined by their shifts, within any bounds. Else the list is sought at random, and need not be the shortest.
 /// None says nothing of the diagrams but that they aren't translates of each other. It comes where the walks end without meeting, and
 /// would come too where a path that they found can't be written as moves, which no test has met.
 ///
 /// The workers of a plan search, in as many threads as can be started. The list is that of the worker that makes the fewest steps until its
-/// walks meet, the first of those with as few: so it doesn't depend on the order in which the threads run. Want of memory in one worker is
-/// the error, whatever the others have found. The watch is told of the progress of the first worker.
+/// walks meet, the first of those with as few: so it doesn't depend on the order in which the threads run. If memory runs out in one worker,
+/// this is the error, whatever the others have found. The watch sees the progress of the first worker.
 pub fn find_joining_by<R: Threads + Sync, W: Watch>(
     rt: &R,
     alloc: Global,

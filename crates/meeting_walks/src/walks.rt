@@ -188,7 +188,7 @@ impl Common {
         Ok(met)
     }
 
-    /// Goes on from the form to which an excursion has come down, where it is one of its own side; any other form is kept behind the trail.
+    /// Goes on from the form to which an excursion has come down, where it is one of its own side; any other form is kept after the trail.
     fn look_up(
         &mut self,
         camp: &mut Camp,
@@ -204,7 +204,7 @@ impl Common {
         }
     }
 
-    /// Keeps the forms of the trail and the one behind it, up to where the sides meet.
+    /// Keeps the forms of the trail and the one after it, up to where the sides meet.
     fn keep_all(
         &mut self,
         camp: &mut Camp,
@@ -246,7 +246,7 @@ fn come_down(camp: &mut Camp, trip: &mut Excursion) {
     }
 }
 
-/// Goes on to a form, which is kept where it is new, or answers that it is one of the other side.
+/// Goes on to a form, which is kept where it is new, or returns that it is one of the other side.
 fn go_to(
     table: &mut Table,
     camp: &Camp,

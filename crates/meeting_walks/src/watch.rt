@@ -1,4 +1,4 @@
-//! How a search tells how far it is.
+//! How a search reports how far it is.
 
 /// How far the first worker of a search is.
 #[derive(Clone, Copy, Debug, PartialEq, Eq)]
@@ -13,7 +13,7 @@ pub struct Progress {
     pub second_size: u8,
 }
 
-/// Is told of a search's progress while it is under way.
+/// Sees a search's progress while it is under way.
 pub trait Watch {
     /// Takes note of how far the search is. It is called in the thread that called the search, after each round of at most 65,536 steps,
     /// and has no say in what is found. Translates are joined without a round.

@@ -95,7 +95,10 @@ module _ (root : Diagram) (keys : List Packed) (listing : IsListing root keys) w
 -- the members of the whole listing are exactly those of the class
 pub listing_is_class : (d : Diagram) (keys : List Packed) → IsGrid d → IsListing d keys → (f : Diagram) → IsInClass d f ↔ (IsGrid f × Contains keys (key_of f))
 listing_is_class d keys grid listing f = (
-  λ is. (canonical_grid is.reached f (joins_grid is.joined.0 d is.reached grid is.joined.1.1) is.form, listed_all d keys listing is.reached f grid is.joined is.form),
+  λ is. (
+    canonical_grid is.reached f (joins_grid is.joined.0 d is.reached grid is.joined.1.1) is.form,
+    listed_all d keys listing is.reached f grid is.joined is.form,
+  ),
   λ both.
       let member = All-contains (IsMember d) keys (key_of f) (listed_members d (length keys) keys grid listing) both.1 in
       let same : member.form ≡ f = key_once member.form f member.names.grid both.0 member.names.key in

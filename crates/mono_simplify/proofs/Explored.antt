@@ -69,7 +69,15 @@ turned d b place keys new key member offers full is stands names list stays cut 
     let few : length is.whole ≤ b = ltb-false b (length is.whole) (sym is.over) in
     let all : keys ≡ is.whole = is.cut ∙ take_all b is.whole few in
     let count : is.turns ≡ place = is.turn refl in
-    let turn : Grows keys place (with_keys keys offers) = record { key = key; stands = stands; member = member; names = names; offers = offers; exchanges = list; more = refl } in
+    let turn : Grows keys place (with_keys keys offers) = record {
+      key = key;
+      stands = stands;
+      member = member;
+      names = names;
+      offers = offers;
+      exchanges = list;
+      more = refl;
+    } in
     let listed : IsListed d place keys = subst (λ (n : ℕ). IsListed d n keys) count
     (subst (λ (ks : List Packed). IsListed d is.turns ks) (sym all) is.listed) in
     let same : take (place + 1) new ≡ take (place + 1) keys =

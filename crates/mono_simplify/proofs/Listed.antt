@@ -62,8 +62,13 @@ link_kept link keeps =
     (shifts_kept link.after.0 link.after.1)
 
 pub joined_after : (d e f : Diagram) → JoinedByExchanges d e → JoinedByExchanges e f → JoinedByExchanges d f
-joined_after d e f one two =
-    (one.0 ++ two.0, (All-append (λ (move : Move). is_shift_or_exchange move ≡ true) one.0 two.0 one.1.0 two.1.0, joins_append one.0 two.0 d e f one.1.1 two.1.1))
+joined_after d e f one two = (
+  one.0 ++ two.0,
+  (
+    All-append (λ (move : Move). is_shift_or_exchange move ≡ true) one.0 two.0 one.1.0 two.1.0,
+    joins_append one.0 two.0 d e f one.1.1 two.1.1,
+  ),
+)
 
 pub joined_translate : (d e : Diagram) → IsGrid d → Contains (translates d) e → JoinedByExchanges d e
 joined_translate d e grid c =

@@ -75,6 +75,7 @@ IsExploredAfter b place exchanges before full after full_after =
 
 -- what the class of d showed with a budget of b members
 abbrev pub IsExploredTo : Diagram → ℕ → Explored → Type 0
-IsExploredTo d b (Smaller smaller moves) = JoinsWithin (size d) d moves.items smaller × (size smaller + 1 ≡ size d) × (list_any is_destabilisation moves.items ≡ true) × AreMonotonic moves.items
+IsExploredTo d b (Smaller smaller moves) = JoinsWithin (size d) d moves.items smaller × (size smaller + 1 ≡ size d)
+    × (list_any is_destabilisation moves.items ≡ true) × AreMonotonic moves.items
 IsExploredTo d b Whole = HasAtMost d b × IsIrreducible d
 IsExploredTo d b More = HasMoreAndNoneSmaller d b

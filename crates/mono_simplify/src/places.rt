@@ -1,4 +1,4 @@
-//! Where the least key of a class stands.
+//! Where the least key of a class is.
 ghost use Rattle.std.specs.Prelude.{◌<◌, ◌+◌, length, take};
 ghost use Rattle.std.specs.List.{All};
 ghost use Rattle.mono_simplify.specs.Ways.{keys_in};

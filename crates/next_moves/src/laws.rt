@@ -22,7 +22,7 @@ ghost use Rattle.next_moves.specs.Reach.{IsReached, AreMembers, HasMembers, HasM
 
 use crate::links::{Link, Offer};
 
-/// An exchange on a diagram is an exchange on each translate in which its two columns, or rows, still stand side by side, at the place
+/// An exchange on a diagram is an exchange on each translate in which its two columns, or rows, are still side by side, at the place
 /// to which they have come, and it leads to the result's translate by the same shifts. A shift by one is such a translate.
 pub fn an_exchange_is_one_on_each_translate()
     ensures columns { (d e : Diagram) (c a b : ℕ)
@@ -66,7 +66,7 @@ pub fn a_stabilisation_is_one_on_each_translate()
 {}
 
 /// A destabilisation on a diagram is on each of its translates the destabilisation of the same block, where its columns and its rows still
-/// stand side by side, and leads to a translate of the result.
+/// are side by side, and leads to a translate of the result.
 pub fn a_destabilisation_is_one_on_each_translate()
     ensures { (d e : Diagram) (c r a b : ℕ)
         → Step d (Destabilise c r) e
@@ -87,8 +87,8 @@ pub fn spans_are_those_of_the_diagram()
         → span_at (row_lows d) (row_highs d) r ≡ record { low = (ends d r).low; high = (ends d r).high } }
 {}
 
-/// Neighbours round the circle may trade places, as lane_spans says by their spans, exactly where their exchange is legal: of the last and
-/// the first on the translate on which they stand side by side.
+/// Neighbours round the circle may change places, as lane_spans says by their spans, exactly where their exchange is legal: of the last and
+/// the first on the translate on which they are side by side.
 pub fn neighbours_trade_places_where_their_exchange_is_legal()
     ensures columns { (d : Diagram) (c : ℕ)
         → IsGrid d
@@ -185,7 +185,7 @@ pub fn there_is_one_number_of_members()
         → m < k }
 {}
 
-/// A neighbour within the cap is reached within the cap, and so is a canonical form.
+/// A neighbour within the cap and a canonical form are reached within the cap.
 pub fn neighbours_and_forms_are_reached()
     ensures neighbour { (d f : Diagram) (cap : ℕ) → IsGrid d → size d ≤ cap → IsNeighbour d cap f → WithinCap d f cap }
     ensures form { (d f : Diagram) (cap : ℕ) → IsGrid d → size d ≤ cap → IsCanonicalForm d f → WithinCap d f cap }

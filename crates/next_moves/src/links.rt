@@ -15,7 +15,7 @@ pub struct Link {
     pub before: (u8, u8),
     /// The move, which is no shift.
     pub step: Move,
-    /// The shifts of columns and of rows behind the move: the least pair that reaches the canonical form.
+    /// The shifts of columns and of rows after the move: the least pair that reaches the canonical form.
     pub after: (u8, u8),
 }
 
@@ -44,7 +44,7 @@ pub struct Offer {
     pub link: Link,
 }
 
-/// Puts the moves of a link at the end of a list. Where there is no memory for all of them, the first few may stand behind the old
+/// Puts the moves of a link at the end of a list. Where there is no memory for all of them, the first few may be after the old
 /// list, and nothing else.
 #[tactic(auto, using(crate::proofs::PutLinks::link_ahead, crate::proofs::PutLinks::link_between, crate::proofs::PutLinks::link_last))]
 pub fn push_link(list: &mut Vec<Move>, link: Link) -> Result<(), OutOfMemory>
@@ -57,7 +57,7 @@ pub fn push_link(list: &mut Vec<Move>, link: Link) -> Result<(), OutOfMemory>
 }
 
 /// Puts the moves of a link at the end of a list, the last one first. Where there is no memory for all of them, the first few of
-/// these may stand behind the old list, and nothing else.
+/// these may be after the old list, and nothing else.
 #[tactic(auto, using(crate::proofs::PutLinks::back_ahead, crate::proofs::PutLinks::back_between, crate::proofs::PutLinks::back_last))]
 pub fn push_link_back(list: &mut Vec<Move>, link: Link) -> Result<(), OutOfMemory>
     ensures list { IfOk result (λ _. list.new.items ≡ list.old.items ++ reverse (link_moves link)) }

@@ -8,7 +8,7 @@ use std::marker::Model;
 
 /// At most `MAX_OFFERS` offers, which lie in the value itself. Contracts see their list.
 ///
-/// The places behind them hold what was there before: so a list is emptied with no write to them.
+/// The places after them keep what was there before, so a list is emptied without writing to them.
 #[derive(Drop)]
 pub(crate) struct OfferList {
     places: [Offer; MAX_OFFERS],

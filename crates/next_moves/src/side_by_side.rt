@@ -13,7 +13,7 @@ pub(crate) fn next(c: u8, size: u8) -> u8
     if c + 1 == size { 0 } else { c + 1 }
 }
 
-/// The shift that brings c and the next number, round the circle, side by side: none but for the last, which then stands one lower.
+/// The shift that brings c and the next number, round the circle, side by side: none but for the last, which is then one lower.
 pub(crate) fn shift_before(c: u8, size: u8) -> u8
     requires least { 2 ≤ size }
     requires inside { c < size }

@@ -57,7 +57,7 @@ impl Spans {
         spans
     }
 
-    /// Puts one more behind them.
+    /// Appends one more.
     fn push(&mut self, span: Span)
         requires lows { length self.old.lows.items < MAX_SIZE }
         requires highs { length self.old.highs.items < MAX_SIZE }

@@ -47,7 +47,7 @@ impl<'a> Tries<'a> {
         }
     }
 
-    /// Appends the offer of the move by which a column and the next one trade places, where there is one, by the trades of the short grid.
+    /// Appends the offer of the move by which a column and the next one change places, where there is one, by the trades of the short grid.
     fn trade_short_column(&self, list: &mut OfferList, trades: &ShortTrades, c: u8)
         requires column { c < size self.now.diagram }
         requires trades { trades.now ≡ trades_of (size self.now.diagram) (column_span self.now.diagram) }
@@ -75,7 +75,7 @@ impl<'a> Tries<'a> {
         }
     }
 
-    /// Appends the offer of the move by which a column and the next one trade places, where there is one: by the spans of the columns, and the
+    /// Appends the offer of the move by which a column and the next one change places, where there is one: by the spans of the columns, and the
     /// mask of their exchanges.
     fn trade_column(&self, list: &mut OfferList, spans: &Spans, exchanges: u64, c: u8)
         requires column { c < size self.now.diagram }
@@ -118,7 +118,7 @@ impl<'a> Tries<'a> {
         self.push_columns_exchanged(list, by, place, Move::SlideColumns(place));
     }
 
-    /// Appends the offer of a legal move by which two columns that stand side by side, after a shift by none or by 1, trade places: made on the
+    /// Appends the offer of a legal move by which two columns that are side by side, after a shift by none or by 1, change places: made on the
     /// short grid, where there is one.
     fn push_columns_exchanged(&self, list: &mut OfferList, by: u8, place: u8, step: Move)
         requires by { by ≤ 1 }
@@ -161,7 +161,7 @@ impl<'a> Tries<'a> {
         }
     }
 
-    /// Appends the offer of the move by which a row and the next one trade places, where there is one, by the trades of the short grid.
+    /// Appends the offer of the move by which a row and the next one change places, where there is one, by the trades of the short grid.
     fn trade_short_row(&self, list: &mut OfferList, trades: &ShortTrades, r: u8)
         requires row { r < size self.now.diagram }
         requires trades { trades.now ≡ trades_of (size self.now.diagram) (ends self.now.diagram) }
@@ -189,7 +189,7 @@ impl<'a> Tries<'a> {
         }
     }
 
-    /// Appends the offer of the move by which a row and the next one trade places, where there is one: by the spans of the rows, and the
+    /// Appends the offer of the move by which a row and the next one change places, where there is one: by the spans of the rows, and the
     /// mask of their exchanges.
     fn trade_row(&self, list: &mut OfferList, spans: &Spans, exchanges: u64, r: u8)
         requires row { r < size self.now.diagram }
@@ -232,7 +232,7 @@ impl<'a> Tries<'a> {
         self.push_rows_exchanged(list, by, place, Move::SlideRows(place));
     }
 
-    /// Appends the offer of a legal move by which two rows that stand side by side, after a shift by none or by 1, trade places: made on the
+    /// Appends the offer of a legal move by which two rows that are side by side, after a shift by none or by 1, change places: made on the
     /// short grid, where there is one.
     fn push_rows_exchanged(&self, list: &mut OfferList, by: u8, place: u8, step: Move)
         requires by { by ≤ 1 }

@@ -1,4 +1,4 @@
-//! The tries one by one, in their order; those of exchanges and slides stand in `trading`.
+//! The tries one by one, in their order; those of exchanges and slides are in `trading`.
 ghost use Rattle.std.specs.Prelude.{◌≡◌, ◌<◌, ◌≤◌, ◌+◌, ◌*◌, ◌∷◌, ◌++◌, [], length, map};
 ghost use Rattle.grid_core.specs.Corners.{corners};
 ghost use Rattle.grid_core.specs.Diagram.{IsGrid, size};
@@ -22,7 +22,7 @@ use grid_keys::{LeastKey, translate};
 use grid_moves::{Move, apply_in_place, narrowing_of, widening_of};
 use std::marker::Model;
 
-/// A grid whose moves are tried, and the cap within which. Beside it stands the same grid as a short one, where a short one has room for one
+/// A grid whose moves are tried, and the cap within which. With it comes the same grid as a short one, where a short one has room for one
 /// more column. Contracts see the grid and the cap.
 #[derive(Drop)]
 pub(crate) struct Tries<'a> {

@@ -1,6 +1,5 @@
 //! The ruling on the numbers of colourings of one diagram.
-ghost use Rattle.std.specs.Prelude.{◌≡◌, ◌≤◌, ◌^◌, true, None, IfOk, IfSome, length, nat_le};
-ghost use Rattle.colour_seeds.specs.declared.counting.TheConstants.{MAX_CANDIDATES};
+ghost use Rattle.std.specs.Prelude.{◌≡◌, ◌≤◌, true, None, IfOk, IfSome, length};
 ghost use Rattle.colour_numbers.specs.Numbers.{fits_by};
 ghost use Rattle.colour_seeds.specs.Settled.{Determine};
 ghost use Rattle.colour_seeds.specs.Plan.{IsPlan, seeds_in};
@@ -8,26 +7,49 @@ ghost use Rattle.number_check.specs.EvidenceHolds.{AreNumbersOf, table_by_block,
 ghost use Rattle.number_check.specs.Cause.{IsCauseOf, settled_cause};
 
 use colour_numbers::{choices_of, numbers};
-use colour_seeds::{CountFault, MAX_CANDIDATES, SeedFault, Seeding};
+use colour_seeds::{CountFault, SeedFault, Seeding, few_ways};
 use evidence_core::{Block, Cause, Counted, LargeWeighing, first_unequal, place_cause};
 use grid_core::Grid;
 use memory_core::OutOfMemory;
 use quandle_core::Operations;
 use std::alloc::Global;
 
+/// A diagram, with what is said of its numbers.
+#[derive(Clone, Copy)]
+pub(crate) struct CountedGrid<'a> {
+    pub(crate) grid: &'a Grid,
+    pub(crate) counted: &'a Counted,
+}
+
+/// A diagram, with these words of its numbers.
+pub(crate) fn said_of<'a>(grid: &'a Grid, counted: &'a Counted) -> CountedGrid<'a>
+    ensures grid { result.grid.now ≡ grid.now }
+    ensures counted { result.counted.now ≡ counted.now }
+{
+    CountedGrid { grid, counted }
+}
+
+/// Numbers that are said to be those of a diagram, by seeds of it.
+#[derive(Clone, Copy)]
+pub struct SaidNumbers<'a> {
+    /// The number of the diagram: 1 or 2.
+    pub which: u8,
+    pub seeds: &'a [u8],
+    pub numbers: &'a [u32],
+}
+
 /// Why what is said of the numbers of a diagram does not hold: the first cause, if there is one.
 pub(crate) fn cause_of_counts(
     alloc: Global,
     which: u8,
-    grid: &Grid,
     block: &Block,
-    counted: &Counted,
+    said: &CountedGrid<'_>,
 ) -> Result<Option<Cause>, OutOfMemory>
-    ensures some { IfOk result (λ o. IfSome o (λ cause. IsCauseOf block.now which grid.now counted.now cause)) }
-    ensures none { IfOk result (λ o. o ≡ None → AreNumbersOf block.now grid.now counted.now) }
+    ensures some { IfOk result (λ o. IfSome o (λ cause. IsCauseOf block.now which said.now.grid.now said.now.counted.now cause)) }
+    ensures none { IfOk result (λ o. o ≡ None → AreNumbersOf block.now said.now.grid.now said.now.counted.now) }
 {
-    match Seeding::new(alloc, grid, counted.seeds.as_slice()) {
-        Ok(seeding) => cause_by(alloc, which, grid, block, counted, &seeding),
+    match Seeding::new(alloc, said.grid, said.counted.seeds.as_slice()) {
+        Ok(seeding) => cause_by(alloc, which, block, said, &seeding),
         Err(SeedFault::Outside { column }) => Ok(Some(Cause::Outside { which, column })),
         Err(SeedFault::Unsettled { column }) => Ok(Some(Cause::Unsettled { which, column })),
         Err(SeedFault::OutOfMemory) => Err(OutOfMemory),
@@ -38,26 +60,22 @@ pub(crate) fn cause_of_counts(
 fn cause_by(
     alloc: Global,
     which: u8,
-    grid: &Grid,
     block: &Block,
-    counted: &Counted,
+    said: &CountedGrid<'_>,
     seeding: &Seeding,
 ) -> Result<Option<Cause>, OutOfMemory>
-    requires settled { Determine counted.now.seeds.items grid.now }
-    requires plan { IsPlan grid.now seeding.now }
-    requires few { seeds_in seeding.now ≤ length counted.now.seeds.items }
-    ensures some { IfOk result (λ o. IfSome o (λ cause. IsCauseOf block.now which grid.now counted.now cause)) }
-    ensures none { IfOk result (λ o. o ≡ None → AreNumbersOf block.now grid.now counted.now) }
+    requires settled { Determine said.now.counted.now.seeds.items said.now.grid.now }
+    requires plan { IsPlan said.now.grid.now seeding.now }
+    requires few { seeds_in seeding.now ≤ length said.now.counted.now.seeds.items }
+    ensures some { IfOk result (λ o. IfSome o (λ cause. IsCauseOf block.now which said.now.grid.now said.now.counted.now cause)) }
+    ensures none { IfOk result (λ o. o ≡ None → AreNumbersOf block.now said.now.grid.now said.now.counted.now) }
 {
-    let given = settled_cause(
-        alloc,
+    let numbers = SaidNumbers {
         which,
-        grid,
-        block,
-        counted.seeds.as_slice(),
-        counted.numbers.as_slice(),
-        seeding,
-    )?;
+        seeds: said.counted.seeds.as_slice(),
+        numbers: said.counted.numbers.as_slice(),
+    };
+    let given = settled_cause(alloc, said.grid, block, &numbers, seeding)?;
     Ok(given)
 }
 
@@ -65,23 +83,24 @@ fn cause_by(
 /// numbers and its own first differ at a place. `None` where they are its own. It counts the diagram's colourings once.
 pub fn settled_cause(
     alloc: Global,
-    which: u8,
     grid: &Grid,
     block: &Block,
-    seeds: &[u8],
-    numbers: &[u32],
+    said: &SaidNumbers<'_>,
     seeding: &Seeding,
 ) -> Result<Option<Cause>, OutOfMemory>
     requires plan { IsPlan grid.now seeding.now }
-    requires few { seeds_in seeding.now ≤ length seeds.now }
-    ensures { IfOk result (λ o. o ≡ settled_cause block.now which grid.now (length seeds.now) numbers.now) }
+    requires few { seeds_in seeding.now ≤ length said.now.seeds.now }
+    ensures { IfOk result (λ o. o ≡ settled_cause block.now said.now.which grid.now (length said.now.seeds.now) said.now.numbers.now) }
 {
-    let seeds = seeds.len();
-    if !are_few(&colouring_quandle(block), choices_of(&block.cocycle, seeds)) {
+    let which = said.which;
+    let seeds = said.seeds.len();
+    let quandle = colouring_quandle(block);
+    let _order = quandle.order();
+    if !few_ways(&quandle, choices_of(&block.cocycle, seeds)) {
         return Ok(Some(Cause::Wide { which, seeds }));
     }
     let own = numbers_by(alloc, grid, block, seeding)?;
-    Ok(place_cause(which, first_unequal(numbers, own.as_slice())))
+    Ok(place_cause(which, first_unequal(said.numbers, own.as_slice())))
 }
 
 /// The numbers of a grid by a block, by a plan of the grid that the block's quandle fits.
@@ -112,14 +131,4 @@ pub fn colouring_quandle(block: &Block) -> Operations<'_>
         Some(LargeWeighing::Strands(cocycle)) => cocycle.quandle(),
         Some(LargeWeighing::Regions(shadow)) => shadow.cocycle.quandle().operations(),
     }
-}
-
-/// Whether so many choices of a colour are at most `MAX_CANDIDATES` together.
-fn are_few(quandle: &Operations, choices: usize) -> bool
-    ensures few { result ≡ nat_le (quandle.now.order ^ choices) MAX_CANDIDATES }
-    ensures least { 1 ≤ quandle.now.order }
-{
-    let _order = quandle.order();
-    let count = choices.min(64) as u32;
-    u32::from(quandle.order()).saturating_pow(count) <= MAX_CANDIDATES
 }

@@ -5,6 +5,6 @@
 mod counts;
 mod ruling;
 
-pub use counts::{colouring_quandle, numbers_by, settled_cause};
+pub use counts::{SaidNumbers, colouring_quandle, numbers_by, settled_cause};
 pub use evidence_core::{Cause, NumberRuling, are_same, linked_of};
 pub use ruling::{laws_of, rule};

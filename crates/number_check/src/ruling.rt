@@ -7,10 +7,8 @@ ghost use Rattle.evidence_core.specs.declared.evidence.Evidence.TheVariants.{Num
 ghost use Rattle.number_check.specs.EvidenceHolds.{EvidenceHolds};
 ghost use Rattle.number_check.specs.Ruling.{RulesOnEvidence};
 
-use crate::counts::cause_of_counts;
-use evidence_core::{
-    Block, Cause, Counted, Evidence, LargeWeighing, Linked, NumberRuling, cause_of_links,
-};
+use crate::counts::{CountedGrid, cause_of_counts, said_of};
+use evidence_core::{Block, Cause, Evidence, LargeWeighing, Linked, NumberRuling, cause_of_links};
 use grid_core::Grid;
 use memory_core::OutOfMemory;
 use std::alloc::Global;
@@ -48,7 +46,7 @@ fn ruled(
             block,
             first: one,
             second: two,
-        } => rule_counts(alloc, first, second, block, one, two),
+        } => rule_counts(alloc, block, &said_of(first, one), &said_of(second, two)),
         Evidence::Linking {
             first: one,
             second: two,
@@ -59,23 +57,21 @@ fn ruled(
 /// The ruling on numbers of colourings.
 fn rule_counts(
     alloc: Global,
-    first: &Grid,
-    second: &Grid,
     block: &Block,
-    one: &Counted,
-    two: &Counted,
+    one: &CountedGrid<'_>,
+    two: &CountedGrid<'_>,
 ) -> Result<NumberRuling, OutOfMemory>
-    ensures ruling { IfOk result (λ r. RulesOnEvidence first.now second.now (Numbers block.now one.now two.now) r) }
-    ensures apart { IfOk result (λ r. r ≡ NumberRuling.Accepted → Equivalent first.now second.now → ⊥) }
+    ensures ruling { IfOk result (λ r. RulesOnEvidence one.now.grid.now two.now.grid.now (Numbers block.now one.now.counted.now two.now.counted.now) r) }
+    ensures apart { IfOk result (λ r. r ≡ NumberRuling.Accepted → Equivalent one.now.grid.now two.now.grid.now → ⊥) }
 {
     laws_of(block);
-    if let Some(cause) = cause_of_counts(alloc, 1, first, block, one)? {
+    if let Some(cause) = cause_of_counts(alloc, 1, block, one)? {
         return Ok(NumberRuling::Rejected(cause));
     }
-    if let Some(cause) = cause_of_counts(alloc, 2, second, block, two)? {
+    if let Some(cause) = cause_of_counts(alloc, 2, block, two)? {
         return Ok(NumberRuling::Rejected(cause));
     }
-    if one.numbers.as_slice() == two.numbers.as_slice() {
+    if one.counted.numbers.as_slice() == two.counted.numbers.as_slice() {
         return Ok(NumberRuling::Rejected(Cause::Equal));
     }
     Ok(NumberRuling::Accepted)

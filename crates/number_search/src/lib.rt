@@ -1,4 +1,4 @@
-//! Two diagrams told apart by numbers: by linking numbers, or by the numbers of their colourings by blocks, counted from few seeds.
+//! Two diagrams distinguished by numbers: by linking numbers, or by the numbers of their colourings by blocks, counted from few seeds.
 //! What is found is evidence that `rule` of number_check accepts, so that no moves join the two; nothing is found exactly where these numbers agree.
 #![tactic(auto)]
 

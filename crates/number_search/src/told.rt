@@ -15,7 +15,7 @@ use number_check::{are_same, laws_of, linked_of, numbers_by};
 use number_text::{Block, Counted, Evidence, LargeWeighing};
 use std::alloc::Global;
 
-/// Evidence that two grids are not equivalent, by their linking numbers, or else by the first of the blocks that tells them apart.
+/// Evidence that two grids are not equivalent, by their linking numbers, or else by the first of the blocks that distinguishes them.
 /// `None` exactly where none of these does.
 pub fn tell_apart(
     alloc: Global,

@@ -18,9 +18,11 @@ abbrev one : Linked
 one = record { components = 1; numbers = [] }
 
 of_the_third_version : third_item (text_of (codes "certificate 3\n" ++ links)) ≡ Ok (Linking two one, record { lines = []; ending = 7 })
-unfolding third_item head_at evidence_at linking_evidence linked_item components_at letters_at next_line next_token line_end word number last_number last_count each_token
+unfolding third_item head_at evidence_at linking_evidence linked_item components_at letters_at next_line next_token line_end word number last_number
+    last_count each_token
 of_the_third_version = refl
 
 of_the_second : third_item (text_of (codes "certificate 2\n" ++ links)) ≡ Err (Malformed 1)
-unfolding third_item head_at evidence_at linking_evidence linked_item components_at letters_at next_line next_token line_end word number last_number last_count each_token
+unfolding third_item head_at evidence_at linking_evidence linked_item components_at letters_at next_line next_token line_end word number last_number
+    last_count each_token
 of_the_second = refl

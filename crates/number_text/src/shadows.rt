@@ -10,7 +10,7 @@ use evidence_core::{SpelledShadow, Spelling};
 use quandle_core::{MAX_ORDER, Operations, Quandle};
 use std::alloc::{AllocFailed, Global};
 use text_items::reading::{line_end, next_line, next_token, word};
-use text_items::rows::{numbers_below, table_rows};
+use text_items::rows::{number_row, table_rows};
 use text_items::{MAX_MODULUS, TextFault};
 use text_lines::{Line, Lines};
 
@@ -179,7 +179,7 @@ fn cochain_item(
     let mut entries = table_rows(alloc, order, modulus, front, lines)?;
     let mut line = next_line(lines)?;
     let at = line.number();
-    let row = numbers_below(alloc, order, modulus, &mut line)?;
+    let row = number_row(alloc, order, modulus, &mut line)?;
     entries.extend_from_slice(row.as_slice())?;
     match ShadowCocycle::new(quandle, modulus, entries) {
         Ok(cocycle) => Ok(SpelledShadow {

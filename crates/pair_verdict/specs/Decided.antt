@@ -57,7 +57,8 @@ abbrev pub IsTrueWithin : Problem → Verdict → Type 0
 IsTrueWithin p (Equal moves) = JoinsWithin p.cap p.first moves p.second
 IsTrueWithin p (Different listed one two) = ⊥
 IsTrueWithin p (UnknownBudget budget) = (budget ≡ p.budget) × HasMoreMembers (IsReached p.first p.second p.cap) budget
-IsTrueWithin p (UnknownExhausted cap k) = (cap ≡ p.cap) × ((k ≤ p.budget) × (HasMembers (IsReached p.first p.second p.cap) k × (WithinCap p.first p.second p.cap → ⊥)))
+IsTrueWithin p (UnknownExhausted cap k) = (cap ≡ p.cap)
+    × ((k ≤ p.budget) × (HasMembers (IsReached p.first p.second p.cap) k × (WithinCap p.first p.second p.cap → ⊥)))
 
 -- No listed quandle separates the diagrams. Both were simplified, and a book of the simplified ones was brought to its end by so many
 -- workers, and is kept. Where there was one worker it took all turns.

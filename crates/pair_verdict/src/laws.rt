@@ -98,7 +98,7 @@ pub fn reach_and_budget_decide_the_kind()
 {}
 
 /// What a decision says of the diagrams is true: diagrams said to be equal are equivalent, and no list of moves joins diagrams
-/// that are told apart. Its evidence holds, so a checker accepts it, and its moves, if any, are a tidy list.
+/// that are distinguished. Its evidence holds, so a checker accepts it, and its moves, if any, are a tidy list.
 pub fn a_decision_is_true()
     ensures claims { (p : Problem) (quandles : List NamedQuandle) (workers : ℕ) (v : Verdict) (kept : Option Finding)
         → All (λ (q : NamedQuandle). IsQuandle q.table) quandles

@@ -40,7 +40,8 @@ fn separation(
     second: &Grid,
     listed: &Listed,
 ) -> Result<Option<Verdict>, OutOfMemory>
-    ensures verdict { IfOk result (λ o. IsSeparation first.now second.now (if separates first.now second.now listed.now.table then Some listed.now else None) o) }
+    ensures verdict { IfOk result (λ o. IsSeparation first.now second.now
+        (if separates first.now second.now listed.now.table then Some listed.now else None) o) }
     ensures claim { IfOk result (λ o. IfSome o (λ v. Claims first.now second.now v)) }
 {
     let quandle = listed.quandle();

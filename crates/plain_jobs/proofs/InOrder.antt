@@ -96,7 +96,8 @@ same_rising (x ∷ xs) (y ∷ ys) up also into back =
     let e = first_same x y xs ys up.0 also.0 (into x (inl refl)) (back y (inl refl)) in
     ap (λ z. z ∷ xs) e
     ∙ ap (λ (zs : List (List ℕ)). y ∷ zs)
-    (same_rising xs ys up.1 also.1 (λ g one. rest_in x y g xs ys e up.0 one (into g (inr one))) (λ g one. rest_in y x g ys xs (sym e) also.0 one (back g (inr one))))
+    (same_rising xs ys up.1 also.1 (λ g one. rest_in x y g xs ys e up.0 one (into g (inr one)))
+    (λ g one. rest_in y x g ys xs (sym e) also.0 one (back g (inr one))))
 
 -- ---- sorted lists that all differ
 
@@ -120,7 +121,8 @@ sorted_rises items sorted apart = λ i j d lt within.
     let inside : j < length items = omega (arith, within, length-map items items_of) in
     let at_i = get_or-map items_of items i (record { items = d }) d (omega (arith, lt, inside)) in
     let at_j = get_or-map items_of items j (record { items = d }) d inside in
-    let far = sorted_far (λ a b. is_lt (slice_cmp nat_cmp a.items b.items)) (ranks_by nat_list_cmp_total items_of) items sorted i j (record { items = d }) (omega (arith, lt)) inside in
+    let far = sorted_far (λ a b. is_lt (slice_cmp nat_cmp a.items b.items)) (ranks_by nat_list_cmp_total items_of) items sorted i j
+    (record { items = d }) (omega (arith, lt)) inside in
     less (get_or (lists_of items) i d) (get_or (lists_of items) j d) (rw (at_i, at_j) far) (apart i j d lt within)
 
 flips : (x y : List ℕ) → bytes_eq x y ≡ bytes_eq y x
@@ -159,7 +161,8 @@ pub images_in_order : (P Q : List ℕ → Type 0) (go : List ℕ → List ℕ) �
 images_in_order P Q go b cs ys list up are items moved sorted =
     let apart = moved_apart (map go cs) (lists_of items) moved (images_apart P go cs b.one list.only list.ascending) in
     same_rising (lists_of items) ys (rising (lists_of items) (sorted_rises items sorted apart)) (rising ys up)
-    (λ g one. into g (Contains-permutation (lists_of items) (map go cs) g (IsPermutation-sym (map go cs) (lists_of items) moved) (at_one g (lists_of items) one)))
+    (λ g one. into g (Contains-permutation (lists_of items) (map go cs) g (IsPermutation-sym (map go cs) (lists_of items) moved)
+    (at_one g (lists_of items) one)))
     (λ g one. back g ((are g).0 (at_one g ys one)))
   where
     into : (g : List ℕ) → Contains (map go cs) g → IsOneOf g ys

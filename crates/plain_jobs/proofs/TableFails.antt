@@ -225,7 +225,8 @@ unfolding blocks_item
 blocks_fail k fails =
     same_fails (λ text. next_line text >>= λ line. few_line line.0 >>= λ few. turns_then MAX_LARGE_ORDER few k line.1)
     (λ text. blocks_item text >>= λ bs. k bs.0 bs.1) (λ text. flat_blocks (next_line text) k)
-    (line_fails few_line (λ few. turns_then MAX_LARGE_ORDER few k) (word_count_at (codes "blocks") MAX_QUANDLES) (λ few. turns_fail MAX_LARGE_ORDER few k fails))
+    (line_fails few_line (λ few. turns_then MAX_LARGE_ORDER few k) (word_count_at (codes "blocks") MAX_QUANDLES)
+    (λ few. turns_fail MAX_LARGE_ORDER few k fails))
 
 -- ---- classes
 
@@ -336,7 +337,8 @@ fourth_at_at : (line : NumberedLine) → At line.number (fourth_at line)
 unfolding fourth_at
 fourth_at_at line =
     at_bind (word_at (codes "certificate") line) (λ rest e.
-    at_bind (at_same ((word_keeps (codes "certificate") line).of rest e) (last_count_at rest)) (λ version f. at_cond (version == FOURTH_VERSION) at_ok at_malformed))
+    at_bind (at_same ((word_keeps (codes "certificate") line).of rest e) (last_count_at rest))
+    (λ version f. at_cond (version == FOURTH_VERSION) at_ok at_malformed))
 
 abbrev table_with : List Block → List Class → List OpenPair → List KnotRow → KnotTable
 table_with blocks classes left rows = record { blocks = blocks; classes = classes; left = left; rows = rows }

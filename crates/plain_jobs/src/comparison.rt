@@ -1,4 +1,4 @@
-//! The last line of a text that compares what is told of two diagrams.
+//! The last line of a text that compares what is said of two diagrams.
 ghost use Rattle.std.specs.Prelude.{◌≡◌, ◌++◌, OnOk};
 ghost use Rattle.plain_jobs.specs.Comparison.{compared_line};
 

@@ -12,7 +12,7 @@ use reply_text::PlainReply;
 use std::alloc::{AllocError, Global};
 
 /// The reply of a job to the bytes of its input, of whatever length. A first bad line is named by the reply. What is said with
-/// `Done` is true. The error comes where memory is wanting.
+/// `Done` is true. It returns an error if memory runs out.
 pub fn answer(alloc: Global, job: PlainJob, bytes: &[u8]) -> Result<PlainReply, AllocError>
     ensures answer { IfOk result (λ reply. AnswersPlainly job bytes.now reply) }
     ensures claim { IfOk result (λ reply. reply.status ≡ Status.Done → IsTrueText job bytes.now reply.text) }

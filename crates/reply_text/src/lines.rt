@@ -12,7 +12,7 @@ use grid_moves::MoveFault;
 use std::alloc::{AllocError, Global};
 use text_lines::{push_counted, push_number};
 
-/// Appends why a move is not legal, each token behind a space.
+/// Appends why a move is not legal, each token after a space.
 fn push_fault(out: &mut Vec<u8>, fault: MoveFault) -> Result<(), AllocError>
     ensures { OnOk result (out.new.items ≡ out.old.items ++ flat_map spaced (fault_tokens fault)) }
 {
@@ -34,7 +34,7 @@ pub fn push_spaced(out: &mut Vec<u8>, words: &[u8], number: u64) -> Result<(), A
     push_number(out, number)
 }
 
-/// Appends the first move that is not legal, each token behind a space.
+/// Appends the first move that is not legal, each token after a space.
 fn push_step(out: &mut Vec<u8>, place: usize, fault: MoveFault) -> Result<(), AllocError>
     ensures { OnOk result (out.new.items ≡ out.old.items ++ flat_map spaced (illegal_step_tokens place fault)) }
 {
@@ -50,7 +50,7 @@ fn push_two(out: &mut Vec<u8>, words: &[u8], a: u8, b: u64) -> Result<(), AllocE
     push_spaced(out, b" ", b)
 }
 
-/// Appends why evidence does not hold, each token behind a space.
+/// Appends why evidence does not hold, each token after a space.
 pub fn push_why(out: &mut Vec<u8>, why: Why) -> Result<(), AllocError>
     ensures { OnOk result (out.new.items ≡ out.old.items ++ flat_map spaced (why_tokens why)) }
 {
@@ -84,7 +84,7 @@ fn why_line(alloc: Global, why: Why) -> Result<Vec<u8>, AllocError>
     Ok(out)
 }
 
-/// Appends why evidence by numbers does not hold, each token behind a space.
+/// Appends why evidence by numbers does not hold, each token after a space.
 fn push_cause(out: &mut Vec<u8>, cause: Cause) -> Result<(), AllocError>
     ensures { OnOk result (out.new.items ≡ out.old.items ++ flat_map spaced (cause_tokens cause)) }
 {

@@ -26,14 +26,14 @@ impl PlainReply {
         }
     }
 
-    /// The reply to an input that is too long. The error comes where memory is wanting.
+    /// The reply to an input that is too long. It returns an error if memory runs out.
     pub fn too_long(alloc: Global) -> Result<PlainReply, AllocError>
         ensures { IfOk result (λ reply. reply ≡ too_long) }
     {
         Ok(PlainReply::new(Status::Limit, limit_bytes(alloc)?))
     }
 
-    /// The reply to a first bad line. The error comes where memory is wanting, which may be the fault too.
+    /// The reply to a first bad line. It returns an error if memory runs out, which may also be the fault.
     pub fn to_fault(alloc: Global, fault: TextFault) -> Result<PlainReply, AllocError>
         ensures { IfOk result (λ reply. IsFaultReply fault reply) }
     {

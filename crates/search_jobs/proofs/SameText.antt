@@ -55,7 +55,9 @@ five_lines : pair (codes "trivial 2: ") (decimal 2) (decimal 2) ++ (pair (codes 
 unfolding digits
 five_lines = refl
 
-behind_seed : (codes "moves " ++ (decimal TURNS ++ codes "\n")) ++ (codes "accepted\n" ++ codes "trivial 2: 2 2\ndihedral 3: 9 9\ntetrahedral: 16 16\ndihedral 5: 5 5\ndihedral 7: 7 7\n") ≡ codes "moves 200\naccepted\ntrivial 2: 2 2\ndihedral 3: 9 9\ntetrahedral: 16 16\ndihedral 5: 5 5\ndihedral 7: 7 7\n"
+behind_seed : (codes "moves " ++ (decimal TURNS ++ codes "\n"))
+    ++ (codes "accepted\n" ++ codes "trivial 2: 2 2\ndihedral 3: 9 9\ntetrahedral: 16 16\ndihedral 5: 5 5\ndihedral 7: 7 7\n")
+    ≡ codes "moves 200\naccepted\ntrivial 2: 2 2\ndihedral 3: 9 9\ntetrahedral: 16 16\ndihedral 5: 5 5\ndihedral 7: 7 7\n"
 unfolding digits
 behind_seed = refl
 
@@ -75,8 +77,10 @@ equal_text : (seed : ℕ) (moves : List Move) (d e : Diagram) → length moves �
     → walk_text seed moves d e ≡ sample_text seed
 equal_text seed moves d e count lines =
     walk_pieces seed moves d e
-    ∙ ap (λ (k : ℕ). (codes "sample " ++ (decimal seed ++ codes "\n")) ++ ((codes "moves " ++ (decimal k ++ codes "\n")) ++ (codes "accepted\n" ++ counts_text d e))) count
-    ∙ ap (λ (zs : List ℕ). (codes "sample " ++ (decimal seed ++ codes "\n")) ++ ((codes "moves " ++ (decimal TURNS ++ codes "\n")) ++ (codes "accepted\n" ++ zs))) lines
+    ∙ ap (λ (k : ℕ). (codes "sample " ++ (decimal seed ++ codes "\n"))
+    ++ ((codes "moves " ++ (decimal k ++ codes "\n")) ++ (codes "accepted\n" ++ counts_text d e))) count
+    ∙ ap (λ (zs : List ℕ). (codes "sample " ++ (decimal seed ++ codes "\n"))
+    ++ ((codes "moves " ++ (decimal TURNS ++ codes "\n")) ++ (codes "accepted\n" ++ zs))) lines
     ∙ ap₂ (λ (xs ys : List ℕ). xs ++ ys) (sym (seed_line (decimal seed))) behind_seed
 
 equivalent_text : (seed : ℕ) (moves : List Move) (d e : Diagram) → length moves ≡ TURNS → Equivalent d e → length (colourings (trivial 2) d) ≡ 2

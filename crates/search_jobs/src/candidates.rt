@@ -5,7 +5,8 @@ ghost use Rattle.grid_core.specs.Diagram.{size};
 ghost use Rattle.grid_core.specs.Corners.{corners};
 ghost use Rattle.search_jobs.specs.declared.walk.TheConstants.{LARGEST};
 ghost use Rattle.search_jobs.specs.declared.candidates.TheConstants.{MOST_TRIES};
-ghost use Rattle.grid_moves.specs.MoveLists.{column_shift, row_shift, column_exchange, row_exchange, destabilisation, destabilisations, stabilisation, stabilisations};
+ghost use Rattle.grid_moves.specs.MoveLists.{column_shift, row_shift, column_exchange, row_exchange};
+ghost use Rattle.grid_moves.specs.MoveLists.{destabilisation, destabilisations, stabilisation, stabilisations};
 ghost use Rattle.search_jobs.specs.Candidates.{is_candidate, candidate_moves};
 ghost use Rattle.search_jobs.specs.Listed.{Adds, steps_of};
 

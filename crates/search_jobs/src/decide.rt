@@ -100,7 +100,7 @@ fn reply_of(decision: Decision, text: Vec<u8>) -> Reply
     }
 }
 
-/// What is searched where no quandle tells the grids apart.
+/// What is searched where no quandle distinguishes the grids.
 fn problem_for(asked: &Asked, input: &ProblemText) -> Problem
     requires bounds { IsWithinBounds asked.now }
     ensures { result ≡ problem_for asked.now (grid_of input.now.first) (grid_of input.now.second) }

@@ -36,7 +36,7 @@ pub fn each_spare_raises_the_cap()
         → (problem_for more d e).cap ≡ min MAX_SIZE ((problem_for asked d e).cap + 1) }
 {}
 
-/// A decision has a text behind its two diagrams, where the listed quandles have texts, and its moves, if any, are not too many
+/// A decision has a text after its two diagrams, where the listed quandles have texts, and its moves, if any, are not too many
 /// for one: so what is printed is read back.
 pub fn a_decision_has_a_text()
     ensures { (p : Problem) (quandles : List NamedQuandle) (workers : ℕ) (v : Verdict) (kept : Option Finding)

@@ -1,5 +1,5 @@
 //! The jobs of `knot` that search or take an option: `decide`, `simplify`, `least` and `sample`, with the sample walks, picked by a seeded generator.
-//! What each replies rests on the bytes of its input, its options, and the search behind it.
+//! What each replies rests on the bytes of its input, its options, and the search made for it.
 #![tactic(auto)]
 
 mod candidates;

@@ -19,7 +19,7 @@ pub struct Reply {
 }
 
 impl Reply {
-    /// A plain reply, behind which is no search.
+    /// A plain reply, for which nothing was searched.
     pub fn without_search(plain: PlainReply) -> Reply
         ensures { result ≡ without_search plain }
     {

@@ -1,4 +1,4 @@
-//! What is told of the walk of a seed.
+//! What is said of the walk of a seed.
 ghost use Rattle.std.specs.Prelude.{◌≡◌, ◌≤◌, ◌++◌, codes, length, IfOk, OnOk};
 ghost use Rattle.std.specs.Fmt.{decimal};
 ghost use Rattle.grid_core.specs.Diagram.{size};
@@ -21,7 +21,7 @@ const LARGEST_ORDER: usize = 7;
 
 /// The text of a seed: the line `sample` with the seed, the line `moves` with the number of moves of its walk, the ruling
 /// on them between the right trefoil and the diagram to which they lead, and for each quandle of the built-in list a line
-/// with its name, a colon, and the numbers of colourings of the first and the last diagram; or want of memory.
+/// with its name, a colon, and the numbers of colourings of the first and the last diagram; or an error if memory runs out.
 ///
 /// The walk is made, ruled on and coloured each time. What is found is the same for every seed, so only the first line
 /// depends on it.
@@ -80,46 +80,16 @@ fn push_counts(
     requires last { size last.now ≤ LARGEST }
     ensures { OnOk result (out.new.items ≡ out.old.items ++ counts_text first.now last.now) }
 {
-    push_pair(
-        alloc,
-        out,
-        b"trivial 2: ",
-        &Quandle::trivial(2),
-        first,
-        last,
-    )?;
-    push_pair(
-        alloc,
-        out,
-        b"dihedral 3: ",
-        &Quandle::dihedral(3),
-        first,
-        last,
-    )?;
-    push_pair(
-        alloc,
-        out,
-        b"tetrahedral: ",
-        &Quandle::tetrahedral(),
-        first,
-        last,
-    )?;
-    push_pair(
-        alloc,
-        out,
-        b"dihedral 5: ",
-        &Quandle::dihedral(5),
-        first,
-        last,
-    )?;
-    push_pair(
-        alloc,
-        out,
-        b"dihedral 7: ",
-        &Quandle::dihedral(7),
-        first,
-        last,
-    )
+    let two = Quandle::trivial(2);
+    let three = Quandle::dihedral(3);
+    let four = Quandle::tetrahedral();
+    let five = Quandle::dihedral(5);
+    let seven = Quandle::dihedral(7);
+    push_pair(alloc, out, b"trivial 2: ", &two, first, last)?;
+    push_pair(alloc, out, b"dihedral 3: ", &three, first, last)?;
+    push_pair(alloc, out, b"tetrahedral: ", &four, first, last)?;
+    push_pair(alloc, out, b"dihedral 5: ", &five, first, last)?;
+    push_pair(alloc, out, b"dihedral 7: ", &seven, first, last)
 }
 
 /// Appends words, of which the last ends with a space, and the counts of two small grids by a small quandle.
@@ -134,7 +104,8 @@ fn push_pair(
     requires first { size first.now ≤ LARGEST }
     requires last { size last.now ≤ LARGEST }
     requires order { quandle.now.order ≤ LARGEST_ORDER }
-    ensures { OnOk result (out.new.items ≡ out.old.items ++ (words.now ++ (decimal (length (colourings quandle.now first.now)) ++ (codes " " ++ (decimal (length (colourings quandle.now last.now)) ++ codes "\n"))))) }
+    ensures { OnOk result (out.new.items ≡ out.old.items ++ (words.now ++ (decimal (length (colourings quandle.now first.now))
+        ++ (codes " " ++ (decimal (length (colourings quandle.now last.now)) ++ codes "\n"))))) }
 {
     let one = count(alloc, quandle, first)?;
     let two = count(alloc, quandle, last)?;

@@ -25,7 +25,7 @@ pub const TURNS: usize = 200;
 /// The stream of the generator.
 pub const STREAM: u64 = 54;
 
-/// The moves of the walk of a seed, from the right trefoil `x 4 3 2 1 0 / o 2 1 0 4 3`; or want of memory.
+/// The moves of the walk of a seed, from the right trefoil `x 4 3 2 1 0 / o 2 1 0 4 3`; or an error if memory runs out.
 ///
 /// The walk has `TURNS` turns. In each one word w is drawn from `Pcg32::new(seed, STREAM)`, and of the legal moves whose
 /// result has at most `LARGEST` columns the one at the place w mod their number is made. They are counted in this order:

@@ -11,7 +11,7 @@ ghost use Rattle.seek.specs.SeekExit.{outside_of, told_of, EndsBy, EndsDoing, Is
 
 use crate::failure::{Failure, OUTPUT, file_name};
 use crate::inputs::read_inputs;
-use crate::outlets::{Outlets, Terminals};
+use crate::outlets::{Host, Outlets};
 use crate::report::{tell, tell_reading};
 use crate::search::Search;
 use clap::error::ErrorKind;
@@ -28,9 +28,7 @@ use std::time::Clock;
 /// a decision answers the words, or they ask for the help or the version. It is lent memory, threads, standard error and the clock, and no
 /// stream or file but those that are named.
 pub(crate) fn call<R: Threads + Sync + Eprint + Clock, F: Texts, P: Places, W: Write + Drop>(
-    rt: &R,
-    alloc: Global,
-    terminals: Terminals,
+    host: &Host<'_, R>,
     words: &[String],
     files: &F,
     outlets: &mut Outlets<P, W>,
@@ -40,14 +38,12 @@ pub(crate) fn call<R: Threads + Sync + Eprint + Clock, F: Texts, P: Places, W: W
     ensures done { exit_status result ≡ 0 → AskForText (texts_of words.now) ⊎ IsAnsweredByDecision (F.told files.now) (texts_of words.now)
         (outside_of P.standing W.contents outlets.old) (outside_of P.standing W.contents outlets.new) }
 {
-    answer(rt, alloc, terminals, words, files, outlets).exit_code()
+    answer(host, words, files, outlets).exit_code()
 }
 
 /// Does what the words of a command line ask for, and says the status. Words that are refused are answered by `clap`, as is a request for help.
 fn answer<R: Threads + Sync + Eprint + Clock, F: Texts, P: Places, W: Write + Drop>(
-    rt: &R,
-    alloc: Global,
-    terminals: Terminals,
+    host: &Host<'_, R>,
     words: &[String],
     files: &F,
     outlets: &mut Outlets<P, W>,
@@ -55,9 +51,9 @@ fn answer<R: Threads + Sync + Eprint + Clock, F: Texts, P: Places, W: Write + Dr
     ensures { EndsCall (told_of F.told F.named files.now) (texts_of words.now)
         (outside_of P.standing W.contents outlets.old) (outside_of P.standing W.contents outlets.new) result }
 {
-    match read_words(alloc, words) {
-        Ok(asked) => seek(rt, alloc, terminals, &asked, files, outlets),
-        Err(error) => answer_words(rt, alloc, &error, outlets),
+    match read_words(host.alloc, words) {
+        Ok(asked) => seek(host, &asked, files, outlets),
+        Err(error) => answer_words(host.rt, host.alloc, &error, outlets),
     }
 }
 
@@ -68,7 +64,8 @@ fn answer_words<R: Eprint, P: Places, W: Write + Drop>(
     error: &clap::Error,
     outlets: &mut Outlets<P, W>,
 ) -> Status
-    ensures shown { (IsHelpOrVersion (kind_of error.now) × IsShownTo (outside_of P.standing W.contents outlets.old) (outside_of P.standing W.contents outlets.new) result)
+    ensures shown { (IsHelpOrVersion (kind_of error.now)
+        × IsShownTo (outside_of P.standing W.contents outlets.old) (outside_of P.standing W.contents outlets.new) result)
         ⊎ ((((IsHelpOrVersion (kind_of error.now) → ⊥) × (result ≡ status.Usage)) ⊎ (result ≡ status.OutOfMemory)) × (outlets.new ≡ outlets.old)) }
     ensures usage { result ≡ status.Usage → kind_of error.now ≢ kind.OutOfMemory }
 {
@@ -131,9 +128,7 @@ fn show_text<R: Eprint, P: Places, W: Write + Drop>(
 
 /// Refuses a file that would be read and written, and else does what is asked.
 fn seek<R: Threads + Sync + Eprint + Clock, F: Texts, P: Places, W: Write + Drop>(
-    rt: &R,
-    alloc: Global,
-    terminals: Terminals,
+    host: &Host<'_, R>,
     asked: &Asked,
     files: &F,
     outlets: &mut Outlets<P, W>,
@@ -144,17 +139,15 @@ fn seek<R: Threads + Sync + Eprint + Clock, F: Texts, P: Places, W: Write + Drop
     match read_and_written(files, asked) {
         Some(path) => {
             let name = file_name(path);
-            tell(rt, &Failure::ReadAndWritten { name })
+            tell(host.rt, &Failure::ReadAndWritten { name })
         }
-        None => seek_apart(rt, alloc, terminals, asked, files, outlets),
+        None => seek_apart(host, asked, files, outlets),
     }
 }
 
 /// Reads the parts and the blocks of what is asked, and seeks a verdict on them.
 fn seek_apart<R: Threads + Sync + Eprint + Clock, F: Texts, P: Places, W: Write + Drop>(
-    rt: &R,
-    alloc: Global,
-    terminals: Terminals,
+    host: &Host<'_, R>,
     asked: &Asked,
     files: &F,
     outlets: &mut Outlets<P, W>,
@@ -162,18 +155,18 @@ fn seek_apart<R: Threads + Sync + Eprint + Clock, F: Texts, P: Places, W: Write 
     ensures { EndsBy (F.told files.now) asked.now
         (outside_of P.standing W.contents outlets.old) (outside_of P.standing W.contents outlets.new) result }
 {
-    tell_reading(rt, terminals.input, asked);
-    match read_inputs(alloc, files, asked) {
+    tell_reading(host.rt, host.terminals.input, asked);
+    match read_inputs(host.alloc, files, asked) {
         Ok(inputs) => {
             let search = Search {
-                rt,
-                alloc,
-                is_terminal: terminals.messages,
+                rt: host.rt,
+                alloc: host.alloc,
+                is_terminal: host.terminals.messages,
                 inputs: &inputs,
                 asked,
             };
             search.seek_inputs(outlets)
         }
-        Err(failure) => tell(rt, &failure),
+        Err(failure) => tell(host.rt, &failure),
     }
 }

@@ -1,6 +1,7 @@
-//! What a call may change.
+//! What a call is lent, and what it may change.
 
 use knot_ports::StdSink;
+use std::alloc::Global;
 
 /// Where to a verdict may go: a file at one of all paths, or standard output, or what stands in for these.
 #[derive(Drop)]
@@ -16,4 +17,12 @@ pub(crate) struct Terminals {
     pub(crate) input: bool,
     /// Standard error.
     pub(crate) messages: bool,
+}
+
+/// What a call is lent besides files: `rt` has threads, standard error and the clock.
+#[derive(Drop)]
+pub(crate) struct Host<'a, R> {
+    pub(crate) rt: &'a R,
+    pub(crate) alloc: Global,
+    pub(crate) terminals: Terminals,
 }

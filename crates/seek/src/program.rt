@@ -2,7 +2,7 @@
 ghost use Rattle.seek.specs.SeekExit.{outside_of, told_of, came, EndsSeek};
 
 use crate::call::call;
-use crate::outlets::{Outlets, Terminals};
+use crate::outlets::{Host, Outlets, Terminals};
 use knot_ports::NoWords;
 use seek_parts::{Places, Texts};
 use std::alloc::Global;
@@ -23,8 +23,13 @@ pub(crate) fn program<R: Threads + Sync + Eprint + Clock, F: Texts, P: Places, W
     ensures { EndsSeek (told_of F.told F.named files.now) (came words)
         (outside_of P.standing W.contents outlets.old) (outside_of P.standing W.contents outlets.new) result }
 {
+    let host = Host {
+        rt,
+        alloc,
+        terminals,
+    };
     match words {
-        Ok(words) => call(rt, alloc, terminals, words.as_slice(), files, outlets),
+        Ok(words) => call(&host, words.as_slice(), files, outlets),
         Err(why) => {
             let _told = eprintln!(rt; "seek: {why}");
             why.exit_code()

@@ -67,18 +67,26 @@ pub(crate) fn tell_line<R: Eprint>(
 {
     let (name, line) = place_of(parts, at);
     match join_parts(alloc, parts.texts()) {
-        Ok(problem) => tell_reason(rt, name, line, reason_at(alloc, problem.as_slice(), at)),
-        Err(_) => {
-            let _told = eprintln!(rt;
-                "seek: {name}, line {line} is bad, and there is not enough memory to say why"
-            );
-        }
+        Ok(problem) => tell_reason(
+            rt,
+            name,
+            line,
+            reason_at(alloc, problem.as_slice(), at).ok(),
+        ),
+        Err(_) => tell_reason(rt, name, line, None),
     }
     kind
 }
 
-/// Tells for which reason a line is bad, and which form a braid among the words has, if it is one.
-fn tell_reason<R: Eprint>(rt: &R, name: &str, line: usize, reason: Reason) {
+/// Tells for which reason a line is bad, and which form a braid among the words has, if it is one. There is no reason where memory was
+/// wanting for it.
+fn tell_reason<R: Eprint>(rt: &R, name: &str, line: usize, reason: Option<Reason>) {
+    let Some(reason) = reason else {
+        let _told = eprintln!(rt;
+            "seek: {name}, line {line} is bad, and there is not enough memory to say why"
+        );
+        return;
+    };
     let form = if name.ends_with("--braid") && is_of_form(reason) {
         BRAID_FORM
     } else {

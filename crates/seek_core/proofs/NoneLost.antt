@@ -134,7 +134,8 @@ all_unfit_passed_over d e (q ∷ qs) = (unfit_passed_over d e q, all_unfit_passe
 -- ---- so the first is the same
 
 first_listed : (d e : Diagram) (listed : List NamedQuandle) → first_separating d e (fitting d e [] listed) ≡ first_separating d e listed
-first_listed d e listed = find_kept (Separates d e) (λ (r : NamedQuandle). fits_diagrams d e r && not (is_named [] r.name)) listed (all_unfit_passed_over d e listed)
+first_listed d e listed = find_kept (Separates d e) (λ (r : NamedQuandle). fits_diagrams d e r && not (is_named [] r.name)) listed
+    (all_unfit_passed_over d e listed)
 
 first_by_formula : (d e : Diagram) (listed : List NamedQuandle) → AllByRecursion (λ (r : NamedQuandle). Names r.name r.table) listed
     → first_separating d e listed ≡ None → first_separating d e (fitting d e listed formula_quandles) ≡ first_separating d e formula_quandles

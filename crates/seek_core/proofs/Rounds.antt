@@ -93,7 +93,8 @@ others_are d e qs front others n is behind none =
     ∙ sym (ap (λ o. option_or o (first_separating d e (drop n qs))) (ap (first_separating d e) (sym is) ∙ none))
     ∙ sym (parted d e qs n)
 
-pub later_verdict : (d e : Diagram) (qs front others : List NamedQuandle) (n : ℕ) (evidence : Option Evidence) (o : Option Said) (p : Option Verdict) (v : Verdict)
+pub later_verdict : (d e : Diagram) (qs front others : List NamedQuandle) (n : ℕ) (evidence : Option Evidence) (o : Option Said)
+    (p : Option Verdict) (v : Verdict)
     → front ≡ take n qs → others ≡ drop n qs → IsFoundWhere d e (first_separating d e front) evidence o → is_some o ≡ false
     → IsVerdictWhere d e (first_separating d e others) p → p ≡ Some v → IsVerdictBy d e (first_separating d e qs) v
 later_verdict d e qs front others n evidence o p v is behind found none later some =

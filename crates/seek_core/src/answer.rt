@@ -3,6 +3,7 @@ ghost use Rattle.std.specs.Prelude.{◌≡◌, ℕ, List, Ok, IfOk};
 ghost use Rattle.std.specs.List.{All};
 ghost use Rattle.knot_text.specs.Printed.{HasQuandleText};
 ghost use Rattle.verdict_text.specs.Problems.{problem_of};
+ghost use Rattle.verdict_core.specs.Diagrams.{column_count};
 ghost use Rattle.seek_core.specs.Answers.{IsTrueAnswer};
 
 use crate::blocks::Blocks;
@@ -87,10 +88,19 @@ fn answer_problem<R: Threads + Sync, W: Watch>(
             let text = print_said(alloc, &said)?;
             Ok(Answer::Decided(Items::from_vec(text)))
         }
-        None => Ok(Answer::NotFound(Tried {
-            columns: (problem.first.columns(), problem.second.columns()),
-            quandles: Items::from_vec(quandles),
-            blocks: fitting,
-        })),
+        None => Ok(Answer::NotFound(in_vain(problem, quandles, fitting))),
+    }
+}
+
+/// What was tried of the diagrams of a problem, where nothing was found: these quandles, and so many of the blocks.
+fn in_vain(problem: &ProblemText, quandles: Vec<Listed>, blocks: usize) -> Tried
+    ensures columns { result.columns ≡ (column_count problem.now.first, column_count problem.now.second) }
+    ensures quandles { result.quandles ≡ quandles.items }
+    ensures blocks { result.blocks ≡ blocks }
+{
+    Tried {
+        columns: (problem.first.columns(), problem.second.columns()),
+        quandles: Items::from_vec(quandles),
+        blocks,
     }
 }

@@ -1,6 +1,7 @@
 //! What bounds a search.
 
 use meeting_walks::Plan;
+use std::alloc::Global;
 
 /// The most steps of the short walk, which joins most pairs of diagrams of one link. It takes some hundredths of a second.
 pub const SHORT_STEPS: u64 = 32_768;
@@ -35,4 +36,12 @@ impl Bounds {
             workers,
         }
     }
+}
+
+/// What a search may use: threads and memory, within these bounds.
+#[derive(Drop)]
+pub(crate) struct Resources<'a, R> {
+    pub(crate) rt: &'a R,
+    pub(crate) alloc: Global,
+    pub(crate) bounds: Bounds,
 }

@@ -11,7 +11,7 @@ ghost use Rattle.seek_core.specs.Parts.{joined};
 
 use crate::answer::{Answer, Tried, answer_to};
 use crate::blocks::Blocks;
-use crate::bounds::Bounds;
+use crate::bounds::{Bounds, Resources};
 use crate::parts::join_parts;
 use knot_ports::{MAX_INPUT, Sink, Status, give_all};
 use meeting_walks::Watch;
@@ -78,19 +78,18 @@ pub fn run<R: Threads + Sync, K: Sink, W: Watch>(
     ensures fault { result ≡ ending.WriteFault → Rose (K.faults sink.old) (K.faults sink.new) }
     ensures count { K.faults sink.old ≤ K.faults sink.new }
 {
+    let resources = Resources { rt, alloc, bounds };
     match join_parts(alloc, parts) {
-        Ok(bytes) => run_whole(rt, alloc, bytes.as_slice(), blocks, bounds, sink, watch),
+        Ok(bytes) => run_whole(&resources, bytes.as_slice(), blocks, sink, watch),
         Err(_) => Ending::OutOfMemory,
     }
 }
 
 /// Looks for what can be said of the diagrams of an input, given as one text, and writes it, as `run` does.
 fn run_whole<R: Threads + Sync, K: Sink, W: Watch>(
-    rt: &R,
-    alloc: Global,
+    resources: &Resources<'_, R>,
     bytes: &[u8],
     blocks: &Blocks,
-    bounds: Bounds,
     sink: &mut K,
     watch: &mut W,
 ) -> Ending
@@ -103,6 +102,7 @@ fn run_whole<R: Threads + Sync, K: Sink, W: Watch>(
     if bytes.len() > MAX_INPUT {
         return Ending::TooLong;
     }
+    let (rt, alloc, bounds) = (resources.rt, resources.alloc, resources.bounds);
     match answer_to(rt, alloc, bytes, blocks, bounds, watch) {
         Ok(answer) => deliver(answer, sink),
         Err(_) => Ending::OutOfMemory,

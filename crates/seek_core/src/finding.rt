@@ -7,7 +7,7 @@ ghost use Rattle.seek_core.specs.Found.{IsVerdictOn, IsFoundOn, IsSearchOf};
 ghost use Rattle.seek_core.specs.Sizes.{blocks_of_size, as_tried};
 
 use crate::blocks::Blocks;
-use crate::bounds::{Bounds, SHORT_STEPS};
+use crate::bounds::{Bounds, Resources, SHORT_STEPS};
 use crate::candidates::candidates;
 use crate::pair::Pair;
 use meeting_walks::Watch;
@@ -63,7 +63,8 @@ pub fn find<R: Threads + Sync, W: Watch>(
     let seeds = SeedPair::of(alloc, &first, &second)?;
     let given = blocks.as_slice();
     let pair = Pair::new(&first, &second, &seeds);
-    let said = said_of(rt, alloc, &pair, quandles.as_slice(), given, bounds, watch)?;
+    let resources = Resources { rt, alloc, bounds };
+    let said = said_of(&resources, &pair, quandles.as_slice(), given, watch)?;
     Ok(SearchOutcome {
         said,
         quandles,
@@ -73,22 +74,20 @@ pub fn find<R: Threads + Sync, W: Watch>(
 
 /// What can be said of two diagrams, if anything is found in one of the rounds.
 fn said_of<R: Threads + Sync, W: Watch>(
-    rt: &R,
-    alloc: Global,
+    resources: &Resources<'_, R>,
     pair: &Pair,
     quandles: &[Listed],
     blocks: &[Block],
-    bounds: Bounds,
     watch: &mut W,
 ) -> Result<Option<Said>, OutOfMemory>
     requires { All HasQuandleText quandles.now }
     ensures { IfOk result (λ o. IsFoundOn pair.now quandles.now (as_tried blocks.now) o) }
 {
-    let said = said_before_larger(rt, alloc, pair, quandles, blocks, bounds, watch)?;
+    let said = said_before_larger(resources, pair, quandles, blocks, watch)?;
     if said.is_some() {
         return Ok(said);
     }
-    match pair.told_by_blocks(alloc, blocks, true)? {
+    match pair.told_by_blocks(resources.alloc, blocks, true)? {
         Some(evidence) => Ok(Some(Said::Evidence(evidence))),
         None => Ok(None),
     }
@@ -96,23 +95,21 @@ fn said_of<R: Threads + Sync, W: Watch>(
 
 /// What can be said of two diagrams, if anything is found in rounds 1 to 6, before the larger blocks are tried.
 fn said_before_larger<R: Threads + Sync, W: Watch>(
-    rt: &R,
-    alloc: Global,
+    resources: &Resources<'_, R>,
     pair: &Pair,
     quandles: &[Listed],
     blocks: &[Block],
-    bounds: Bounds,
     watch: &mut W,
 ) -> Result<Option<Said>, OutOfMemory>
     requires { All HasQuandleText quandles.now }
     ensures { IfOk result (λ o. IsFoundOn pair.now quandles.now (blocks_of_size false blocks.now) o) }
 {
     let (front, others) = quandles.split_at(FIRST_QUANDLES.min(quandles.len()));
-    let told = told_first(alloc, pair, front, blocks)?;
+    let told = told_first(resources.alloc, pair, front, blocks)?;
     if told.is_some() {
         return Ok(told);
     }
-    match verdict_on(rt, alloc, pair, others, bounds, watch)? {
+    match verdict_on(resources, pair, others, watch)? {
         Some(verdict) => Ok(Some(Said::Verdict(verdict))),
         None => Ok(None),
     }
@@ -142,26 +139,24 @@ fn told_first(
 /// The verdict of rounds 4 to 6: `equal` by the short walk, `different` by the first of the quandles that separates two diagrams, or `equal` by the
 /// long walks.
 fn verdict_on<R: Threads + Sync, W: Watch>(
-    rt: &R,
-    alloc: Global,
+    resources: &Resources<'_, R>,
     pair: &Pair,
     quandles: &[Listed],
-    bounds: Bounds,
     watch: &mut W,
 ) -> Result<Option<Verdict>, OutOfMemory>
     requires { All HasQuandleText quandles.now }
     ensures { IfOk result (λ o. IsVerdictOn pair.now quandles.now o) }
 {
-    let joined = pair.joining(rt, alloc, bounds.short(), watch)?;
+    let joined = pair.joining(resources, resources.bounds.short(), watch)?;
     if joined.is_some() {
         return Ok(joined);
     }
-    let told = pair.separation(alloc, quandles)?;
+    let told = pair.separation(resources.alloc, quandles)?;
     if told.is_some() {
         return Ok(told);
     }
-    if bounds.walks.steps <= SHORT_STEPS {
+    if resources.bounds.walks.steps <= SHORT_STEPS {
         return Ok(None);
     }
-    pair.joining(rt, alloc, bounds, watch)
+    pair.joining(resources, resources.bounds, watch)
 }

@@ -5,7 +5,7 @@ ghost use Rattle.pair_verdict.specs.Separates.{first_separating, IsSeparation};
 ghost use Rattle.seek_core.specs.Found.{IsEqualBy};
 ghost use Rattle.seek_core.specs.Sizes.{blocks_of_size};
 
-use crate::bounds::Bounds;
+use crate::bounds::{Bounds, Resources};
 use crate::separating::first_separation;
 use crate::sizes::tell_by_size;
 use grid_canon::tidy;
@@ -82,24 +82,22 @@ impl<'a> Pair<'a> {
         first_separation(alloc, self.first, self.second, self.seeds, quandles)
     }
 
-    /// The verdict `equal` by a tidy list of moves, if the walks find a list. It joins the diagrams as given.
+    /// The verdict `equal` by a tidy list of moves, if walks within these bounds find a list. It joins the diagrams as given.
     pub(crate) fn joining<R: Threads + Sync, W: Watch>(
         &self,
-        rt: &R,
-        alloc: Global,
+        resources: &Resources<'_, R>,
         bounds: Bounds,
         watch: &mut W,
     ) -> Result<Option<Verdict>, OutOfMemory>
         ensures { IfOk result (λ o. IfSome o (λ v. IsEqualBy self.now.first self.now.second v)) }
     {
-        equal(rt, alloc, self.first, self.second, bounds, watch)
+        equal(resources, self.first, self.second, bounds, watch)
     }
 }
 
-/// The verdict `equal` on two grids by a tidy list of moves that joins them, if the walks find a list.
+/// The verdict `equal` on two grids by a tidy list of moves that joins them, if walks within these bounds find a list.
 fn equal<R: Threads + Sync, W: Watch>(
-    rt: &R,
-    alloc: Global,
+    resources: &Resources<'_, R>,
     first: &Grid,
     second: &Grid,
     bounds: Bounds,
@@ -107,6 +105,7 @@ fn equal<R: Threads + Sync, W: Watch>(
 ) -> Result<Option<Verdict>, OutOfMemory>
     ensures { IfOk result (λ o. IfSome o (λ v. IsEqualBy first.now second.now v)) }
 {
+    let (rt, alloc) = (resources.rt, resources.alloc);
     match find_joining_by(rt, alloc, first, second, bounds.plan(), watch)? {
         Some(moves) => {
             let list = tidy(alloc, first, moves.as_slice())?;

@@ -14,7 +14,7 @@ use reply_text::PlainReply;
 use std::alloc::{AllocError, Global};
 
 /// The answer to the bytes of a table: `Done` where it was accepted, and is true, or `Rejected` with the first cause; or the reply that names
-/// the first bad line. The error comes where memory is wanting.
+/// the first bad line. It returns an error if memory runs out.
 pub fn answer_table(alloc: Global, bytes: &[u8]) -> Result<PlainReply, AllocError>
     ensures answer { IfOk result (λ reply. AnswersRead AnswersTable (knot_table_of bytes.now) reply) }
     ensures claim { IfOk result (λ reply. reply.status ≡ Status.Done → IsTableCertificate bytes.now) }

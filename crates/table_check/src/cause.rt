@@ -12,7 +12,7 @@ pub enum TableRuling {
 }
 
 /// Why a table does not hold: of the first class that doesn't hold, else the first pair of classes that is said to be of different knots
-/// and isn't told apart, else the first row that doesn't hold. Classes, blocks, rows and places are counted from 0.
+/// and isn't distinguished, else the first row that doesn't hold. Classes, blocks, rows and places are counted from 0.
 #[derive(Clone, Copy, Debug, PartialEq, Eq)]
 pub enum TableCause {
     /// What is said of this class isn't shown.

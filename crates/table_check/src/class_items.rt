@@ -15,7 +15,7 @@ use text_lines::Lines;
 use verdict_core::Diagram;
 use verdict_text::diagram_item;
 
-/// A class of a table: the diagram that stands for it, columns that are to settle this diagram, and for each block how many colourings
+/// A class of a table: the diagram that represents it, columns that are to settle this diagram, and for each block how many colourings
 /// the diagram is said to have, if it's said: one number, or one for each weight.
 #[derive(Drop)]
 pub struct Class {

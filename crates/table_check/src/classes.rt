@@ -15,7 +15,7 @@ use colour_seeds::{SeedFault, Seeding};
 use evidence_core::Block;
 use grid_core::Grid;
 use memory_core::OutOfMemory;
-use number_check::{Cause, settled_cause};
+use number_check::{Cause, SaidNumbers, settled_cause};
 use std::alloc::Global;
 
 /// Why the classes of a table don't hold: the first cause, if there is one.
@@ -103,8 +103,12 @@ fn block_cause(
     let Some(numbers) = numbers_at(class, at) else {
         return Ok(None);
     };
-    let seeds = class.seeds.as_slice();
-    match settled_cause(alloc, 1, grid, block, seeds, numbers, seeding)? {
+    let said = SaidNumbers {
+        which: 1,
+        seeds: class.seeds.as_slice(),
+        numbers,
+    };
+    match settled_cause(alloc, grid, block, &said, seeding)? {
         None => Ok(None),
         Some(Cause::Number { place, .. }) => Ok(Some(ClassCause::Numbers { block: at, place })),
         Some(_) => Ok(Some(ClassCause::Wide { block: at })),

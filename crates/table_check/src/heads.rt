@@ -1,4 +1,4 @@
-//! Lines that say how many items come behind them.
+//! Lines that say how many items follow.
 ghost use Rattle.std.specs.Prelude.{◌≡◌};
 ghost use Rattle.text_items.specs.Reading.{Gives};
 ghost use Rattle.table_check.specs.Tables.{how_many};

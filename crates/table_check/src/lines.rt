@@ -18,7 +18,7 @@ fn push_two(out: &mut Vec<u8>, words: &[u8], a: u64, b: u64) -> Result<(), Alloc
     push_spaced(out, b" ", b)
 }
 
-/// Appends why what is said of a class isn't shown, each token behind a space.
+/// Appends why what is said of a class isn't shown, each token after a space.
 fn push_class(out: &mut Vec<u8>, cause: ClassCause) -> Result<(), AllocError>
     ensures { OnOk result (out.new.items ≡ out.old.items ++ flat_map spaced (class_tokens cause)) }
 {
@@ -32,7 +32,7 @@ fn push_class(out: &mut Vec<u8>, cause: ClassCause) -> Result<(), AllocError>
     }
 }
 
-/// Appends why a table doesn't hold, each token behind a space.
+/// Appends why a table doesn't hold, each token after a space.
 fn push_table(out: &mut Vec<u8>, cause: TableCause) -> Result<(), AllocError>
     ensures { OnOk result (out.new.items ≡ out.old.items ++ flat_map spaced (table_tokens cause)) }
 {

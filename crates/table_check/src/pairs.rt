@@ -25,7 +25,7 @@ pub(crate) fn pairs_cause(table: &KnotTable) -> Option<TableCause>
     None
 }
 
-/// The first class behind this one from which it's neither told apart nor left open.
+/// The first class after this one from which it's neither distinguished nor left open.
 fn same_as(table: &KnotTable, first: usize) -> Option<usize>
     ensures some { IfSome result (λ second. PairsWith table.now first second × PairFails table.now first second) }
     ensures none { result ≡ None → PairsWith table.now first (length table.now.classes) }
@@ -38,7 +38,7 @@ fn same_as(table: &KnotTable, first: usize) -> Option<usize>
     None
 }
 
-/// Whether two classes, the lesser first, are neither told apart nor left open.
+/// Whether two classes, the lesser first, are neither distinguished nor left open.
 fn are_same(table: &KnotTable, first: usize, second: usize) -> bool
     ensures yes { result ≡ true → PairFails table.now first second }
     ensures no { result ≡ false → PairHolds table.now first second }

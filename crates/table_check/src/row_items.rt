@@ -21,7 +21,7 @@ pub struct OpenPair {
     pub second: u32,
 }
 
-/// A row of a table: a diagram, its class, counted from 0, and moves to the diagram that stands for the class.
+/// A row of a table: a diagram, its class, counted from 0, and moves to the diagram that represents the class.
 #[derive(Drop)]
 pub struct KnotRow {
     pub diagram: Diagram,

@@ -54,7 +54,7 @@ fn ruled(alloc: Global, table: &KnotTable) -> Result<TableRuling, OutOfMemory>
     Ok(TableRuling::Accepted)
 }
 
-/// The quandles of blocks are quandles, and so are their cocycles, if there are any. It does nothing.
+/// The quandles of blocks are quandles, and their cocycles, if there are any, are cocycles. It does nothing.
 fn laws_of_each(blocks: &[Block])
     ensures quandles { All (λ b. IsQuandle b.listed.table) blocks.now }
     ensures cocycles { All (λ b. IsCocycleOrNone b.cocycle) blocks.now }

@@ -35,6 +35,12 @@ first_all kept values tells short = tells.first ∙ take_all MAX_SIZE (map low v
 abbrev are_below : List ℕ → ℕ → ℕ → Bool
 are_below values width order = (length values == width) && list_all (λ v. nat_lt v order) values
 
+-- all numbers of a line, cut down, are so many and below the order where they were before
+cut_test : (width order : ℕ) (values row : List ℕ) → order ≤ 255 → row ≡ map low values → are_below row width order ≡ are_below values width order
+cut_test width order values row most cut =
+    ap (λ (vs : List ℕ). (length vs == width) && list_all (λ v. nat_lt v order) vs) cut
+    ∙ ap₂ (λ (n : ℕ) (b : Bool). (n == width) && b) (length-map values low) (all_low order values most)
+
 below_by : (kept : Kept) (values : List ℕ) (width order : ℕ) → width ≤ MAX_SIZE → order ≤ 255 → Tells kept values → (t : Bool) → kept.more ≡ t
     → are_kept_below kept width order ≡ are_below values width order
 below_by kept values width order fits most tells true is =
@@ -45,8 +51,7 @@ below_by kept values width order fits most tells false is =
     let short : length values ≤ MAX_SIZE = ltb-false MAX_SIZE (length values) (sym tells.more ∙ is) in
     let same = first_all kept values tells short in
     let one : are_kept_below kept width order ≡ ((length kept.first.items == width) && list_all (λ v. nat_lt v order) kept.first.items) = rw is refl in
-    one ∙ ap (λ (vs : List ℕ). (length vs == width) && list_all (λ v. nat_lt v order) vs) same
-    ∙ ap₂ (λ (n : ℕ) (b : Bool). (n == width) && b) (length-map values low) (all_low order values most)
+    one ∙ cut_test width order values kept.first.items most same
 
 below_test : (kept : Kept) (values : List ℕ) (width order : ℕ) → width ≤ MAX_SIZE → order ≤ 255 → Tells kept values
     → are_kept_below kept width order ≡ are_below values width order
@@ -84,19 +89,21 @@ below_bad kept width order line fits most read long bad =
     let content : are_below read.values width order ≡ false = sym (below_test kept read.values width order fits most read.tells) ∙ bad in
     rw (read.is, test, content) refl
 
--- the same of all numbers of a line
-pub all_bad : (width order : ℕ) (line : NumberedLine) (values : List ℕ) → line_numbers line ≡ Ok values → list_any is_long values ≡ false
-    → are_below values width order ≡ false → numbers_below width order line ≡ Err (Malformed line.number)
+pub row_bad : (width order : ℕ) (line : NumberedLine) (values row : List ℕ) → order ≤ 255 → line_numbers line ≡ Ok values → list_any is_long values ≡ false
+    → row ≡ map low values → are_below row width order ≡ false → numbers_below width order line ≡ Err (Malformed line.number)
 unfolding numbers_below
-all_bad width order line values read long content = rw (read, long, content) refl
+row_bad width order line values row most read long cut content =
+    let before : are_below values width order ≡ false = sym (cut_test width order values row most cut) ∙ content in
+    rw (read, long, before) refl
 
-pub all_good : (width order : ℕ) (line : NumberedLine) (values bytes : List ℕ) → order ≤ 255 → line_numbers line ≡ Ok values → list_any is_long values ≡ false
-    → are_below values width order ≡ true → bytes ≡ map low values → numbers_below width order line ≡ Ok bytes
+pub row_good : (width order : ℕ) (line : NumberedLine) (values row : List ℕ) → order ≤ 255 → line_numbers line ≡ Ok values → list_any is_long values ≡ false
+    → row ≡ map low values → are_below row width order ≡ true → numbers_below width order line ≡ Ok row
 unfolding numbers_below
-all_good width order line values bytes most read long content is =
-    let parts = and_parts (length values == width) (list_all (λ v. nat_lt v order) values) content in
-    let one : numbers_below width order line ≡ Ok values = rw (read, long, content) refl in
-    one ∙ ap (λ (vs : List ℕ). Ok vs) (sym (is ∙ same_low order values most parts.1))
+row_good width order line values row most read long cut content =
+    let before : are_below values width order ≡ true = sym (cut_test width order values row most cut) ∙ content in
+    let parts = and_parts (length values == width) (list_all (λ v. nat_lt v order) values) before in
+    let one : numbers_below width order line ≡ Ok values = rw (read, long, before) refl in
+    one ∙ ap (λ (vs : List ℕ). Ok vs) (sym (cut ∙ same_low order values most parts.1))
 
 record GoodLine (kept : Kept) (width order : ℕ) (line : NumberedLine) : Type 0 where
   is : numbers_below width order line ≡ Ok kept.first.items

@@ -10,7 +10,8 @@ abbrev pub with_values : {A : Type 0} → List A → Result (List A) TextFault �
 with_values front read = read >>= λ vs. Ok (front ++ vs)
 
 -- this was kept of the values so far, and these tokens are still to be read
-pub record GoesOn {A : Type 0} (value : List ℕ → Option A) (Kept : List A → Type 0) (tokens : List (List ℕ)) (total : Result (List A) TextFault) (n : ℕ) : Type 0 where
+pub record GoesOn {A : Type 0} (value : List ℕ → Option A) (Kept : List A → Type 0) (tokens : List (List ℕ)) (total : Result (List A) TextFault)
+    (n : ℕ) : Type 0 where
   pub values : List A
   pub kept : Kept values
   pub read : with_values values (each_token value n tokens) ≡ total

@@ -1,6 +1,6 @@
 -- A braid as a text: `braid`, the number of strands, and the letters from the lowest crossing to the highest, in one line.
-use Rattle.std.specs.Prelude.{ℕ, ◌+◌, ◌*◌, ℤ, pos, neg_ℤ, unsigned_abs, ◌==◌, ◌||◌, Bool, List, [], ◌∷◌, codes, Option, None, Result, Ok, Err}
-use Rattle.std.specs.Prelude.{is_none, length, nat_lt, if◌then◌else◌}
+use Rattle.std.specs.Prelude.{ℕ, ◌+◌, ◌*◌, ℤ, pos, neg_ℤ, unsigned_abs, ◌==◌, ◌||◌, Bool, List, [], ◌∷◌, codes, Option, None, Result}
+use Rattle.std.specs.Prelude.{Ok, Err, is_none, length, nat_lt, if◌then◌else◌}
 use Rattle.std.specs.Option.{option_map}
 use Rattle.std.specs.List.{list_any}
 use Rattle.grid_core.specs.declared.grid.TheConstants.{MAX_SIZE}
@@ -49,6 +49,7 @@ braid_at line = do
   list ← letters strands.1
   braid_of line.number (record { strands = strands.0; letters = list })
 
+-- the line that is due, as that of a braid
 unfoldable pub braid_item : Text → Result (Word × Text) TextFault
 braid_item text = do
   line ← next_line text

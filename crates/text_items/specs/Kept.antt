@@ -20,7 +20,7 @@ pub record KeepsRead {A : Type 0} (Told : List A → Type 0) (read : Result (Lis
   pub is : read ≡ Ok values
   pub tells : Told values
 
--- the same of a call that may have failed
+-- a call that may have failed: what it kept tells of the values that were read, or the fault is that of the definition
 abbrev pub KeepsOrFails : {K A : Type 0} → (K → List A → Type 0) → Result K TextFault → Result (List A) TextFault → Type 0
 KeepsOrFails Told (Ok kept) read = KeepsRead (Told kept) read
 KeepsOrFails Told (Err e) read = Fails e read
@@ -39,6 +39,7 @@ pub record CutsRead (rows : ArrayVec ℕ) (read : Result (List ℕ) TextFault) :
   pub is : read ≡ Ok values
   pub cut : rows.items ≡ map low values
 
+-- a call that may have failed: the rows are the numbers that were read, cut down, or the fault is that of the definition
 abbrev pub CutsOrFails : Result (ArrayVec ℕ) TextFault → Result (List ℕ) TextFault → Type 0
 CutsOrFails (Ok rows) read = CutsRead rows read
 CutsOrFails (Err e) read = Fails e read

@@ -18,22 +18,26 @@ use Rattle.text_items.specs.NumberLines.{numbers_below, is_long}
 
 -- ---- the form of a name, with numbers of any size
 
+-- the order at the end of a line, and the name that is made of it
 abbrev pub with_order : (ℕ → Written) → NumberedLine → Result (Written × NumberedLine) TextFault
 with_order make line = do
   order ← last_number line
   Ok (make order.0, order.1)
 
+-- the order and the factor of an Alexander quandle, at the end of a line
 unfoldable pub alexander_at : NumberedLine → Result (Written × NumberedLine) TextFault
 alexander_at line = do
   order ← number line
   factor ← last_number order.1
   Ok (written.Alexander order.0 factor.0, factor.1)
 
+-- the end of the line of the tetrahedral quandle
 unfoldable pub tetrahedral_at : NumberedLine → Result (Written × NumberedLine) TextFault
 tetrahedral_at line = do
   end ← line_end line
   Ok (written.Tetrahedral, end)
 
+-- a family and its numbers, at the end of a line
 unfoldable pub written_at : NumberedLine → Result (Written × NumberedLine) TextFault
 written_at line = do
   family ← next_token line
@@ -108,6 +112,7 @@ quandle_at most line text = do
 
 -- ---- the item, and a list of items
 
+-- `quandle` and a name, with the lines behind it that a table takes
 unfoldable pub quandle_item : Text → Result (NamedQuandle × Text) TextFault
 quandle_item text = do
   line ← next_line text
@@ -141,7 +146,7 @@ abbrev pub or_built_in : List NamedQuandle → List NamedQuandle
 or_built_in [] = built_in
 or_built_in (quandle ∷ quandles) = quandle ∷ quandles
 
--- the same of at most MAX_QUANDLES, without which the built-in list stands
+-- at most MAX_QUANDLES quandles, or the built-in list where there are none
 unfoldable pub quandle_list : Text → Result (List NamedQuandle × Text) TextFault
 quandle_list text = do
   listed ← quandles MAX_QUANDLES text

@@ -26,6 +26,7 @@ Gives view (Err e) read = Fails e read
 
 -- ---- lines
 
+-- the first of the lines, and those behind it; a fault at the line behind the text where there are none
 abbrev pub line_among : List NumberedLine → ℕ → Result (NumberedLine × Text) TextFault
 line_among [] ending = Err (Malformed ending)
 line_among (line ∷ lines) ending = Ok (line, record { lines = lines; ending = ending })
@@ -34,6 +35,7 @@ line_among (line ∷ lines) ending = Ok (line, record { lines = lines; ending = 
 unfoldable pub next_line : Text → Result (NumberedLine × Text) TextFault
 next_line text = line_among text.lines text.ending
 
+-- there is no line, or a fault at the first
 abbrev pub no_line_among : List NumberedLine → Result (Unit {0}) TextFault
 no_line_among [] = Ok tt
 no_line_among (line ∷ lines) = Err (Malformed line.number)
@@ -52,6 +54,7 @@ in_turn item (suc count) text = do
 
 -- ---- tokens of a line
 
+-- the first of the tokens of line n, and what is left of the line; a fault where there are none
 abbrev pub token_among : ℕ → List (List ℕ) → Result (List ℕ × NumberedLine) TextFault
 token_among n [] = Err (Malformed n)
 token_among n (token ∷ tokens) = Ok (token, record { number = n; tokens = tokens })
@@ -60,6 +63,7 @@ token_among n (token ∷ tokens) = Ok (token, record { number = n; tokens = toke
 unfoldable pub next_token : NumberedLine → Result (List ℕ × NumberedLine) TextFault
 next_token line = token_among line.number line.tokens
 
+-- line n has no token left, or a fault
 abbrev pub no_token_among : ℕ → List (List ℕ) → Result NumberedLine TextFault
 no_token_among n [] = Ok (record { number = n; tokens = [] })
 no_token_among n (token ∷ tokens) = Err (Malformed n)
@@ -68,17 +72,18 @@ no_token_among n (token ∷ tokens) = Err (Malformed n)
 unfoldable pub line_end : NumberedLine → Result NumberedLine TextFault
 line_end line = no_token_among line.number line.tokens
 
--- this word
+-- the token that is due, which must be this word
 unfoldable pub word : List ℕ → NumberedLine → Result NumberedLine TextFault
 word expected line = do
   token ← next_token line
   if bytes_eq token.0 expected then Ok token.1 else Err (Malformed line.number)
 
--- a number of any size
+-- what is there, or a fault of line n where nothing is
 abbrev pub or_malformed : {A : Type 0} → ℕ → Option A → Result A TextFault
 or_malformed n None = Err (Malformed n)
 or_malformed n (Some x) = Ok x
 
+-- a number of any size
 unfoldable pub number : NumberedLine → Result (ℕ × NumberedLine) TextFault
 number line = do
   token ← next_token line

@@ -46,11 +46,7 @@ fn letters(line: &mut Line) -> Result<KeptLetters, TextFault>
     ensures { KeepsOrFails TellsLetters result (letters line.old) }
 {
     let at = line.number();
-    let mut kept = KeptLetters {
-        first: ArrayVec::new(),
-        more: false,
-        long: false,
-    };
+    let mut kept = no_letters_kept();
     while let Some(token) = line.next_token() {
         let Some(value) = letter(token) else {
             return Err(TextFault::Malformed { line: at });
@@ -58,6 +54,17 @@ fn letters(line: &mut Line) -> Result<KeptLetters, TextFault>
         keep(&mut kept, value);
     }
     Ok(kept)
+}
+
+/// What is kept of no letters.
+fn no_letters_kept() -> KeptLetters
+    ensures { TellsLetters result [] }
+{
+    KeptLetters {
+        first: ArrayVec::new(),
+        more: false,
+        long: false,
+    }
 }
 
 /// Keeps one letter more.

@@ -13,30 +13,43 @@ ghost use Rattle.text_items.specs.Quandles.{table_item, judged, quandle_at};
 use crate::fault::TextFault;
 use crate::quandles::{Written, is_over, quandle_of, written_at};
 use crate::reading::next_line;
-use crate::rows::{numbers_below, table_front};
+use crate::rows::{number_row, table_front};
 use quandle_core::{LargeFault, LargeListed, LargeQuandle};
 use std::alloc::Global;
 use text_lines::{Line, Lines};
 
+/// Where the name of a quandle stands.
+#[derive(Clone, Copy)]
+struct NamePlace {
+    /// How many colours a table may have there.
+    most: usize,
+    /// The number of the line.
+    at: usize,
+}
+
 /// The lines of a table of up to `MAX_LARGE_ORDER` colours, which has the three laws of a quandle, or is malformed at its last line.
 #[tactic(auto, unfolding(crate::specs::Quandles::table_item))]
-fn table_item(alloc: Global, order: u8, lines: &mut Lines) -> Result<LargeQuandle, TextFault>
+fn large_table_item(alloc: Global, order: u8, lines: &mut Lines) -> Result<LargeQuandle, TextFault>
     requires { (1 ≤ order) × (order ≤ MAX_LARGE_ORDER) }
     ensures { Gives (λ q. (called name.Table q, lines.new)) result (table_item order lines.old) }
 {
     let mut entries = table_front(alloc, order, order, lines)?;
     let mut line = next_line(lines)?;
     let at = line.number();
-    let row = numbers_below(alloc, order, order, &mut line)?;
+    let row = number_row(alloc, order, order, &mut line)?;
     entries.extend_from_slice(row.as_slice())?;
-    match quandle_by(alloc, order, entries.as_slice())? {
+    match large_quandle_by(alloc, order, entries.as_slice())? {
         Some(quandle) => Ok(quandle),
         None => Err(TextFault::Malformed { line: at }),
     }
 }
 
 /// The quandle of a table, if it has the laws.
-fn quandle_by(alloc: Global, order: u8, table: &[u8]) -> Result<Option<LargeQuandle>, TextFault>
+fn large_quandle_by(
+    alloc: Global,
+    order: u8,
+    table: &[u8],
+) -> Result<Option<LargeQuandle>, TextFault>
     requires { order ≤ MAX_LARGE_ORDER }
     ensures some { IfOk result (λ o. IfSome o (λ q. (is_none (first_fault_within order (record { order = order; entries = table.now })) ≡ true)
         × (q ≡ record { order = order; entries = table.now }))) }
@@ -64,48 +77,49 @@ pub fn large_quandle_at(
     ensures { Gives (λ q. (q, lines.new)) result (quandle_at most line.old lines.old) }
 {
     let written = written_at(line)?;
-    let at = line.number();
-    quandle_written(alloc, most, at, written, lines)
+    let place = NamePlace {
+        most,
+        at: line.number(),
+    };
+    quandle_written(alloc, place, written, lines)
 }
 
-/// What a name in line `at` means, with the lines behind it that a table takes.
+/// What a name means, with the lines behind it that a table takes.
 fn quandle_written(
     alloc: Global,
-    most: usize,
-    at: usize,
+    place: NamePlace,
     written: Written,
     lines: &mut Lines,
 ) -> Result<LargeListed, TextFault>
-    requires { most ≤ MAX_LARGE_ORDER }
-    ensures { Gives (λ q. (q, lines.new)) result (judged most at written lines.old) }
+    requires { place.most ≤ MAX_LARGE_ORDER }
+    ensures { Gives (λ q. (q, lines.new)) result (judged place.most place.at written lines.old) }
 {
     match written {
-        Written::Table(order) => table_written(alloc, most, at, order, lines),
+        Written::Table(order) => table_written(alloc, place, order, lines),
         Written::Trivial(_)
         | Written::Dihedral(_)
         | Written::Tetrahedral
-        | Written::Alexander(_, _) => { name_written(alloc, at, written, lines) }
+        | Written::Alexander(_, _) => { name_written(alloc, place.at, written, lines) }
     }
 }
 
-/// What `table` and an order in line `at` mean, with the lines behind them.
+/// What `table` and an order mean, with the lines behind them.
 fn table_written(
     alloc: Global,
-    most: usize,
-    at: usize,
+    place: NamePlace,
     order: u32,
     lines: &mut Lines,
 ) -> Result<LargeListed, TextFault>
-    requires { most ≤ MAX_LARGE_ORDER }
-    ensures { Gives (λ q. (q, lines.new)) result (judged most at (written.Table order) lines.old) }
+    requires { place.most ≤ MAX_LARGE_ORDER }
+    ensures { Gives (λ q. (q, lines.new)) result (judged place.most place.at (written.Table order) lines.old) }
 {
-    if order as usize > most {
-        return Err(TextFault::Limit { line: at });
+    if order as usize > place.most {
+        return Err(TextFault::Limit { line: place.at });
     }
     if order < 1 {
-        return Err(TextFault::Malformed { line: at });
+        return Err(TextFault::Malformed { line: place.at });
     }
-    let quandle = table_item(alloc, order as u8, lines)?;
+    let quandle = large_table_item(alloc, order as u8, lines)?;
     Ok(LargeListed::table(quandle))
 }
 

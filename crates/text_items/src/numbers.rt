@@ -1,5 +1,5 @@
 //! Lines of numbers.
-ghost use Rattle.std.specs.Prelude.{◌≡◌, ◌≤◌, ◌++◌, [], ◌∷◌, ℕ, List, nat_lt, IfOk};
+ghost use Rattle.std.specs.Prelude.{◌≡◌, ◌≤◌, ◌==◌, ◌&&◌, ◌++◌, [], ◌∷◌, ℕ, List, length, nat_lt, IfOk};
 ghost use Rattle.arrayvec.specs.ArrayVec.{array_vec_len};
 ghost use Rattle.std.specs.List.{list_all};
 ghost use Rattle.grid_core.specs.declared.grid.TheConstants.{MAX_SIZE};
@@ -28,11 +28,7 @@ fn numbers(line: &mut Line) -> Result<Kept, TextFault>
     ensures { KeepsOrFails Tells result (line_numbers line.old) }
 {
     let at = line.number();
-    let mut kept = Kept {
-        first: Rows::new(),
-        more: false,
-        long: false,
-    };
+    let mut kept = no_numbers_kept();
     while let Some(token) = line.next_token() {
         let Some(value) = text_lines::number(token) else {
             return Err(TextFault::Malformed { line: at });
@@ -40,6 +36,17 @@ fn numbers(line: &mut Line) -> Result<Kept, TextFault>
         keep(&mut kept, value);
     }
     Ok(kept)
+}
+
+/// What is kept of no numbers.
+fn no_numbers_kept() -> Kept
+    ensures { Tells result [] }
+{
+    Kept {
+        first: Rows::new(),
+        more: false,
+        long: false,
+    }
 }
 
 /// Keeps one number more.
@@ -75,7 +82,7 @@ pub fn numbers_behind(expected: &[u8], line: &mut Line) -> Result<Rows, TextFaul
     Ok(kept.first)
 }
 
-/// So many numbers below the order, which is at most 255, in place. `numbers_below` of `rows` gives them on the heap, however many.
+/// So many numbers below the order, which is at most 255, in place. `number_row` of `rows` gives them on the heap, however many.
 #[tactic(auto, unfolding(crate::specs::NumberLines::numbers_below))]
 pub fn numbers_below(width: u8, order: u8, line: &mut Line) -> Result<Rows, TextFault>
     requires { width ≤ MAX_SIZE }
@@ -97,7 +104,14 @@ pub fn numbers_below(width: u8, order: u8, line: &mut Line) -> Result<Rows, Text
 fn are_below(kept: &Kept, width: u8, order: u8) -> bool
     ensures { result ≡ are_kept_below kept.now width order }
 {
-    !kept.more && kept.first.len() == width as usize && all_below(kept.first.as_slice(), order)
+    !kept.more && is_row(kept.first.as_slice(), width, order)
+}
+
+/// Whether a row has so many numbers, all of them below a bound.
+pub(crate) fn is_row(row: &[u8], width: u8, bound: u8) -> bool
+    ensures { result ≡ ((length row.now == width) && list_all (λ v. nat_lt v bound) row.now) }
+{
+    row.len() == width as usize && all_below(row, bound)
 }
 
 /// Whether each number is below the order.

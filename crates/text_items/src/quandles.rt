@@ -3,12 +3,12 @@ ghost use Rattle.std.specs.Prelude.{◌≡◌, ◌≤◌, false, is_none, is_som
 ghost use Rattle.quandle_core.specs.declared.quandle.TheConstants.{MAX_ORDER};
 ghost use Rattle.quandle_core.specs.Fault.{first_fault_within};
 ghost use Rattle.text_items.specs.Reading.{Gives};
-ghost use Rattle.text_items.specs.Quandles.{written_at, alexander_at, tetrahedral_at, is_over, meant, table_item, quandle_of, quandle_at, quandle_item, surplus_quandle, quandles, quandle_list};
-ghost use Rattle.text_items.specs.Quandles.{built_in};
+ghost use Rattle.text_items.specs.Quandles.{written_at, alexander_at, tetrahedral_at, is_over, meant, table_item, quandle_of};
+ghost use Rattle.text_items.specs.Quandles.{quandle_at, quandle_item, surplus_quandle, quandles, quandle_list, built_in};
 
 use crate::fault::TextFault;
 use crate::reading::{MAX_NUMBER, last_number, line_end, next_line, next_token, number, word};
-use crate::rows::{numbers_below, table_front};
+use crate::rows::{number_row, table_front};
 use memory_core::Items;
 use quandle_core::{Listed, MAX_ORDER, Quandle, QuandleName};
 use std::alloc::Global;
@@ -105,7 +105,7 @@ fn table_item(alloc: Global, order: u8, lines: &mut Lines) -> Result<Listed, Tex
     let mut entries = table_front(alloc, order, order, lines)?;
     let mut line = next_line(lines)?;
     let at = line.number();
-    let row = numbers_below(alloc, order, order, &mut line)?;
+    let row = number_row(alloc, order, order, &mut line)?;
     entries.extend_from_slice(row.as_slice())?;
     match quandle_by(order, entries.as_slice()) {
         Some(quandle) => Ok(Listed::table(quandle)),

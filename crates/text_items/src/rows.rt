@@ -1,6 +1,5 @@
 //! Rows of numbers, read onto the heap.
-ghost use Rattle.std.specs.Prelude.{◌≡◌, ◌≤◌, ◌-◌, ◌==◌, ◌&&◌, length, map, nat_lt, IfOk};
-ghost use Rattle.std.specs.List.{list_all};
+ghost use Rattle.std.specs.Prelude.{◌≡◌, ◌≤◌, ◌-◌, map, IfOk};
 ghost use Rattle.text_items.specs.Reading.{Gives};
 ghost use Rattle.text_items.specs.NumberLines.{numbers_below};
 ghost use Rattle.text_items.specs.Kept.{low};
@@ -8,14 +7,14 @@ ghost use Rattle.text_items.specs.Quandles.{table_row, table_rows};
 
 use crate::fault::TextFault;
 use crate::number_lists::{any_long, number_list};
-use crate::numbers::low;
+use crate::numbers::{is_row, low};
 use crate::reading::next_line;
 use std::alloc::{AllocFailed, Global};
 use text_lines::{Line, Lines};
 
-/// So many numbers below a bound, which is at most 255, on the heap. Else the fault of the line, or want of memory.
+/// A row of so many numbers below a bound, which is at most 255, on the heap. Else the fault of the line, or want of memory.
 #[tactic(auto, unfolding(crate::specs::NumberLines::numbers_below))]
-pub fn numbers_below(
+pub fn number_row(
     alloc: Global,
     width: u8,
     bound: u8,
@@ -28,26 +27,11 @@ pub fn numbers_below(
     if any_long(list.as_slice()) {
         return Err(TextFault::Limit { line: at });
     }
-    if !are_below(list.as_slice(), width, bound) {
+    let row = narrowed(alloc, list.as_slice())?;
+    if !is_row(row.as_slice(), width, bound) {
         return Err(TextFault::Malformed { line: at });
     }
-    let bytes = narrowed(alloc, list.as_slice())?;
-    Ok(bytes)
-}
-
-/// Whether there are so many numbers, all of them below the bound.
-fn are_below(list: &[u32], width: u8, bound: u8) -> bool
-    ensures { result ≡ ((length list.now == width) && list_all (λ v. nat_lt v bound) list.now) }
-{
-    list.len() == width as usize && all_below(list, bound)
-}
-
-/// Whether each number is below the bound.
-fn all_below(list: &[u32], bound: u8) -> bool
-    ensures { result ≡ list_all (λ v. nat_lt v bound) list.now }
-{
-    let most = bound as u32;
-    list.iter().all(|value| *value < most)
+    Ok(row)
 }
 
 /// The numbers of a list, each cut down to at most 255.
@@ -67,7 +51,7 @@ fn table_row(alloc: Global, order: u8, bound: u8, lines: &mut Lines) -> Result<V
     ensures { Gives (λ v. (v.items, lines.new)) result (table_row order bound lines.old) }
 {
     let mut line = next_line(lines)?;
-    numbers_below(alloc, order, bound, &mut line)
+    number_row(alloc, order, bound, &mut line)
 }
 
 /// The entries of so many lines, each of as many numbers below the bound as the order.

@@ -65,7 +65,8 @@ line_again n b braid =
 letters_words : (m : ℕ) (ls : List ℤ) → m ≤ MAX_STRANDS → AllByRecursion (IsLetter m) ls → list_all is_word (map letter_token ls) ≡ true
 letters_words m [] most all = refl
 letters_words m (a ∷ ls) most all =
-    and_from (is_word (letter_token a)) (list_all is_word (map letter_token ls)) (letter_word a (omega (arith, all.0.most, most))) (letters_words m ls most all.1)
+    and_from (is_word (letter_token a)) (list_all is_word (map letter_token ls)) (letter_word a (omega (arith, all.0.most, most)))
+    (letters_words m ls most all.1)
 
 pub braid_words : (b : Word) → IsBraid b → list_all is_line (braid_lines b) ≡ true
 braid_words b braid =

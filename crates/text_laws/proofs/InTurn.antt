@@ -121,7 +121,8 @@ rows_said (Destabilise c r) = refl
 follows : (before : Option Move) (tokens : List (List ℕ)) (move : Move) → AreTokensOf before tokens
     → (tidy_kind tokens).content (move_tokens move) ≡ may_follow before move
 follows None tokens move are =
-    rw are (ap₂ (λ (p q : Bool). not (p || q)) (and-false (says_shift_of (codes "columns") (move_tokens move))) (and-false (says_shift_of (codes "rows") (move_tokens move))))
+    rw are (ap₂ (λ (p q : Bool). not (p || q)) (and-false (says_shift_of (codes "columns") (move_tokens move)))
+    (and-false (says_shift_of (codes "rows") (move_tokens move))))
 follows (Some last) tokens move are = rw (are, columns_said move, rows_said move, rows_said last, shift_said last) refl
 
 tidy_err : (form over content : Bool) (n : ℕ) (e : TextFault) → Some e ≡ fault_by form over true n → Some e ≡ fault_by form over content n

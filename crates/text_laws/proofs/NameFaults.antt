@@ -193,7 +193,8 @@ abbrev from_dihedral : List ℕ → NumberedLine → Result (Written × Numbered
 from_dihedral t line = cond (bytes_eq t (codes "dihedral")) (with_order (λ k. written.Dihedral k) line) (from_tetrahedral t line)
 
 -- what is read behind each of the families, and behind none
-pub record ByFamily {B : Type 0} (n : ℕ) (rest : List (List ℕ)) (next : Written × NumberedLine → Result B TextFault) (fault : List ℕ → Option TextFault) : Type 0 where
+pub record ByFamily {B : Type 0} (n : ℕ) (rest : List (List ℕ)) (next : Written × NumberedLine → Result B TextFault)
+    (fault : List ℕ → Option TextFault) : Type 0 where
   pub trivial : read_fault (with_order (λ k. written.Trivial k) (line_of n rest) >>= next) ≡ fault (codes "trivial")
   pub dihedral : read_fault (with_order (λ k. written.Dihedral k) (line_of n rest) >>= next) ≡ fault (codes "dihedral")
   pub tetrahedral : read_fault (tetrahedral_at (line_of n rest) >>= next) ≡ fault (codes "tetrahedral")

@@ -171,7 +171,11 @@ unfolding problem_item
 problem_written listed p text rest has there other =
     let a = cut (diagram_lines p.first) (diagram_lines p.second ++ listed_lines listed) text rest there in
     let b = cut (diagram_lines p.second) (listed_lines listed) a.mid rest a.second in
-    rw (diagram_written text p.first a.mid has.first a.first, diagram_written a.mid p.second b.mid has.second b.first, list_written listed p.quandles b.mid rest has.quandles b.second other) refl
+    rw (
+      diagram_written text p.first a.mid has.first a.first,
+      diagram_written a.mid p.second b.mid has.second b.first,
+      list_written listed p.quandles b.mid rest has.quandles b.second other,
+    ) refl
 
 pub problem_in_written : (text : Text) (p : ProblemText) → IsProblemText (tokens_by_line text.lines) p → problem_in text ≡ Ok p
 unfolding problem_in
@@ -191,7 +195,8 @@ pub check_in_written : (text : Text) (p : ProblemText) (v : Verdict) → IsCheck
 unfolding check_in
 check_in_written text p v is =
     let version : Version = is.2.0 in
-    let c = cut (problem_lines is.0 p) (version_lines version v) text (nothing_behind text) (whole (problem_lines is.0 p ++ version_lines version v) text is.2.2) in
+    let c = cut (problem_lines is.0 p) (version_lines version v) text (nothing_behind text)
+    (whole (problem_lines is.0 p ++ version_lines version v) text is.2.2) in
     let item = problem_written is.0 p text c.mid is.1 c.first (verdict_first version v c.mid (nothing_behind text) c.second) in
     rw (item, verdict_written version (column_count p.first) (column_count p.second) c.mid v (nothing_behind text) is.2.1 c.second, end_read text) refl
 
@@ -201,7 +206,12 @@ replay_in_written text r has is =
     let end = nothing_behind text in
     let a = cut (diagram_lines r.diagram) (moves_lines (codes "moves") r.moves ++ given_lines r.colours) text end (whole (replay_lines r) text is) in
     let b = cut (moves_lines (codes "moves") r.moves) (given_lines r.colours) a.mid end a.second in
-    rw (diagram_written text r.diagram a.mid has.diagram a.first, moves_written a.mid r.moves b.mid has.moves b.first, given_written r.diagram r.colours b.mid end has.diagram has.colours b.second refl, end_read text) refl
+    rw (
+      diagram_written text r.diagram a.mid has.diagram a.first,
+      moves_written a.mid r.moves b.mid has.moves b.first,
+      given_written r.diagram r.colours b.mid end has.diagram has.colours b.second refl,
+      end_read text,
+    ) refl
 
 pub colour_in_written : (text : Text) (c : ColourText) → IsColourText (tokens_by_line text.lines) c → colour_in text ≡ Ok c
 unfolding colour_in

@@ -112,7 +112,10 @@ insert_says line = says_bind (IsNumberFirst line.tokens) (number_says line) (λ 
     let all : line.tokens ≡ decimal place ∷ letter.token ∷ [] =
     first (omega (arith, few.0, few.1)) ∙ ap₂ (λ (k : ℕ) (ts : List (List ℕ)). decimal k ∷ ts) few.0 letter.alone in
     let spelt = subst (λ (b : ℤ). IsSpelled b letter.token) small.0 letter.spelt in
-    says_ok (Insert place a) ((few.1, small.1), insert_by place a letter.token (codes "insert" ∷ line.tokens) (ap (λ (ts : List (List ℕ)). codes "insert" ∷ ts) all) spelt)))))
+    says_ok (Insert place a) (
+      (few.1, small.1),
+      insert_by place a letter.token (codes "insert" ∷ line.tokens) (ap (λ (ts : List (List ℕ)). codes "insert" ∷ ts) all) spelt,
+    )))))
 
 grow_says : (line : NumberedLine) → Says (grow line) (IsStep (codes "grow" ∷ line.tokens))
 unfolding grow

@@ -72,7 +72,13 @@ weight_in_written text w has is =
     let b = cut (diagram_lines w.second) (named ++ last) a.mid end a.second in
     let c = cut named last b.mid end b.second in
     let quandle = named_is w.listed.name w.listed.table has.listed.names in
-    rw (diagram_written text w.first a.mid has.first a.first, diagram_written a.mid w.second b.mid has.second b.first, quandle_written b.mid w.listed c.mid has.listed c.first, cocycle_written w.listed.table c.mid w.cocycle end quandle has.cocycle c.second, end_read text) refl
+    rw (
+      diagram_written text w.first a.mid has.first a.first,
+      diagram_written a.mid w.second b.mid has.second b.first,
+      quandle_written b.mid w.listed c.mid has.listed c.first,
+      cocycle_written w.listed.table c.mid w.cocycle end quandle has.cocycle c.second,
+      end_read text,
+    ) refl
 
 -- texts that say the same have one reading
 pub weight_again : (a b : List ℕ) (w : WeightText) → said_by a ≡ said_by b → weight_of a ≡ Ok w → weight_of b ≡ Ok w

@@ -80,7 +80,8 @@ pub read_from : {A : Type 0} (item : Text → Result (A × Text) TextFault) → 
     → StandInFront printed text rest → ((left : Text) → item text ≡ Ok (value, left) → left ≡ rest) → item text ≡ Ok (value, rest)
 read_from {A = A} item alike printed value text rest again there one =
     let t = lines_before (numbered 0 printed) rest in
-    let same : SameText t text = tokens_parted (numbered 0 printed) rest.lines ∙ ap (λ (ls : List (List (List ℕ))). ls ++ tokens_by_line rest.lines) (numbered_tokens 0 printed) ∙ sym (front_tokens there) in
+    let same : SameText t text = tokens_parted (numbered 0 printed) rest.lines ∙ ap (λ (ls : List (List (List ℕ))). ls ++ tokens_by_line rest.lines)
+    (numbered_tokens 0 printed) ∙ sym (front_tokens there) in
     let found = (alike t text same).of (value, rest) again in
     let x = found.0 in
     let here : item text ≡ Ok (value, x.1) = found.1 ∙ ap (λ (v : A). Ok (v, x.1)) (sym found.2.0) in

@@ -107,10 +107,12 @@ last_steps = rw two_is refl
 
 -- a word behind the move
 one_word_more : replay_of (codes "x 0 1\no 1 0\nmoves 1\nstabilise 0 x lowleft please\n") ≡ Err (Malformed 4)
-unfolding replay_in diagram_item grid_item x_at o_at numbers_behind each_token word next_token next_line moves_item last_count last_number number line_end in_turn next_move move_at stabilise kind_at corner_at
+unfolding replay_in diagram_item grid_item x_at o_at numbers_behind each_token word next_token next_line moves_item last_count last_number number
+    line_end in_turn next_move move_at stabilise kind_at corner_at
 one_word_more = refl
 
 -- a word that is no axis
 no_axis : replay_of (codes "x 0 1\no 1 0\nmoves 1\nexchange diagonals 1\n") ≡ Err (Malformed 4)
-unfolding replay_in diagram_item grid_item x_at o_at numbers_behind each_token word next_token next_line moves_item last_count last_number number line_end in_turn next_move move_at exchange
+unfolding replay_in diagram_item grid_item x_at o_at numbers_behind each_token word next_token next_line moves_item last_count last_number number
+    line_end in_turn next_move move_at exchange
 no_axis = refl

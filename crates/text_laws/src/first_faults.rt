@@ -30,7 +30,7 @@ pub fn the_first_fault_of_a_step_comes_first()
         → (first_step_fault w step ≡ Some fault) ↔ IsFirst (IsStepFault w step) step_rank step_number fault }
 {}
 
-/// Of two lists of rows by column: size, length, and then a row outside, a row that stands again and a cell with both marks, each at its lowest column.
+/// Of two lists of rows by column: size, length, and then a row outside, a row that comes again and a cell with both marks, each at its lowest column.
 pub fn the_first_fault_of_a_grid_comes_first()
     ensures { (d : Diagram) (fault : GridFault)
         → (first_grid_fault d.x d.o ≡ Some fault) ↔ IsFirst (IsGridFault d) grid_rank grid_number fault }

@@ -37,11 +37,14 @@ ghost use Rattle.verdict_text.specs.Cocycles.{cochain, cocycle_item};
 ghost use Rattle.text_items.specs.Modulus.{modulus_at};
 ghost use Rattle.knot_text.specs.Weights.{weight_in, weight_of};
 ghost use Rattle.knot_text.specs.Printed.{grid_text, braid_text, moves_text, version_lines, version_text, HaveMovesText, HasVersionText};
-ghost use Rattle.knot_text.specs.Printed.{grid_lines, moves_lines, quandle_lines, quandle_text, braid_lines, diagram_lines, colours_lines, colours_text, HasQuandleText, HasDiagramText};
-ghost use Rattle.knot_text.specs.Printed.{steps_text, HaveStepsText};
-ghost use Rattle.knot_text.specs.WrittenThere.{StandInFront, said_by, HasProblemText, problem_lines, IsProblemText, IsCheckText, HasReplayText, replay_lines, IsColourText, IsCloseText, IsPairText};
+ghost use Rattle.knot_text.specs.Printed.{grid_lines, moves_lines, quandle_lines, quandle_text, braid_lines, diagram_lines};
+ghost use Rattle.knot_text.specs.Printed.{colours_lines, colours_text, HasQuandleText, HasDiagramText, steps_text, HaveStepsText};
+ghost use Rattle.knot_text.specs.WrittenThere.{StandInFront, said_by, HasProblemText, problem_lines, IsProblemText, IsCheckText};
+ghost use Rattle.knot_text.specs.WrittenThere.{HasReplayText, replay_lines, IsColourText, IsCloseText, IsPairText};
 ghost use Rattle.knot_text.specs.WrittenThere.{StepsInFront, IsBraidCheckText, HasWeightText, weight_lines};
-ghost use Rattle.text_laws.specs.LineKinds.{FailsByKind, x_kind, o_kind, colours_kind, below_kind, braid_kind, move_kind, step_kind, modulus_kind, certificate_kind, read_fault, row_values, counted_kind, unknown_kind, name_kind, others, behind_word, surplus_kind};
+ghost use Rattle.text_laws.specs.LineKinds.{FailsByKind, x_kind, o_kind, colours_kind, below_kind, braid_kind, move_kind, step_kind, modulus_kind};
+ghost use Rattle.text_laws.specs.LineKinds.{certificate_kind, read_fault, row_values, counted_kind, unknown_kind, name_kind, others};
+ghost use Rattle.text_laws.specs.LineKinds.{behind_word, surplus_kind};
 ghost use Rattle.text_laws.specs.FirstLines.{count, table_fault, on_top, BeginsBy, BeginsWith, BeginsElse, FailsWith, FailsElse};
 ghost use Rattle.text_laws.specs.FirstLines.{lines_fault, tidy_fault, rows_fault, item_then, end_fault, as_quandle};
 ghost use Rattle.knot_text.specs.FirstBadLine.{with_lines_behind, IsStable, FailsFirst};
@@ -51,39 +54,39 @@ use grid_moves::Move;
 use knot_text::{BraidCheckText, CloseText, ColourText, ReplayText, Version, WeightText};
 use verdict_core::{Diagram, ProblemText, Verdict};
 
-/// A printed grid is read back, whatever stands behind it.
+/// A printed grid is read back, whatever follows it.
 pub fn a_printed_grid_is_read()
     ensures { (n : ℕ) (d : Marks) (more : List ℕ) → IsGrid d
         → grid_item (text_from n (grid_text d ++ more)) ≡ Ok (d, text_from (n + 2) more) }
 {}
 
-/// Each braid has a text, which is read as this braid, whatever stands behind it; and what is read as a braid is one.
+/// Each braid has a text, which is read as this braid, whatever follows it; and what is read as a braid is one.
 pub fn a_written_braid_is_read()
     ensures text { (n : ℕ) (b : Word) (more : List ℕ) → IsBraid b
         → braid_item (text_from n (braid_text b ++ more)) ≡ Ok (b, text_from (n + 1) more) }
     ensures braid { (text : Text) (b : Word) (rest : Text) → braid_item text ≡ Ok (b, rest) → IsBraid b }
 {}
 
-/// Printed moves are read back, whatever stands behind them, if there are few enough.
+/// Printed moves are read back, whatever follows them, if there are few enough.
 pub fn printed_moves_are_read()
     ensures { (n : ℕ) (moves : List Move) (more : List ℕ) → HaveMovesText moves
         → moves_item (text_from n (moves_text moves ++ more)) ≡ Ok (moves, text_from (n + (length moves + 1)) more) }
 {}
 
 /// Steps between braids have a text, if there are few enough with small enough places and letters. It is read as these
-/// steps, whatever stands behind it.
+/// steps, whatever follows it.
 pub fn written_steps_are_read()
     ensures { (n : ℕ) (steps : List BraidMove) (more : List ℕ) → HaveStepsText steps
         → steps_item (text_from n (steps_text steps ++ more)) ≡ Ok (steps, text_from (n + (length steps + 1)) more) }
 {}
 
-/// A printed verdict of either version is read back, whatever stands behind it, if it has a text behind two diagrams of these sizes.
+/// A printed verdict of either version is read back, whatever follows it, if it has a text after two diagrams of these sizes.
 pub fn a_printed_verdict_is_read()
     ensures { (version : Version) (n one two : ℕ) (v : Verdict) (more : List ℕ) → 1 ≤ one → 1 ≤ two → HasVersionText version one two v
         → verdict_item one two (text_from n (version_text version v ++ more)) ≡ Ok (v, text_from (n + length (version_lines version v)) more) }
 {}
 
-/// A verdict that is printed behind the text of its problem is read with it, behind a line feed where the last line of
+/// A verdict that is printed after the text of its problem is read with it, after a line feed where the last line of
 /// the problem lacks one.
 pub fn a_verdict_behind_its_problem_is_read()
     ensures whole { (version : Version) (bytes : List ℕ) (p : ProblemText) (v : Verdict) → are_whole_lines bytes ≡ true → problem_of bytes ≡ Ok p
@@ -151,13 +154,13 @@ pub fn a_line_fails_by_its_form_then_its_limits_then_its_content()
 {}
 
 /// The rows that a line of Xs may have: two or more, and each number below their number once. So it is refused in its own
-/// line, and not in the line of the Os behind it.
+/// line, and not in the line of the Os after it.
 pub fn rows_are_each_number_once()
     ensures { (rows : List ℕ) → are_rows rows ≡ true ↔ ((2 ≤ length rows) × IsOneEach (length rows) rows) }
 {}
 
-/// An item fails by its first line, where that is no line of its kind, else by what this line asks for behind it: the other
-/// line of a grid, so many moves, steps or lines of colours, the lines of a table, or behind `certificate` the verdict. Its form,
+/// An item fails by its first line, where that is no line of its kind, else by what this line asks for after it: the other
+/// line of a grid, so many moves, steps or lines of colours, the lines of a table, or after `certificate` the verdict. Its form,
 /// limits and content are those of `LineKinds`.
 pub fn an_item_fails_by_its_first_line_first()
     ensures grid { BeginsBy x_kind (λ tokens text. lines_fault (o_kind (row_values tokens)) 1 text) grid_item }
@@ -186,7 +189,7 @@ pub fn an_item_fails_by_its_first_line_first()
         → read_fault (verdict_item one two (on_top line text)) ≡ read_fault (verdict_of Version.Plain one two (on_top line text)) }
 {}
 
-/// Lines of one kind, one behind the other, fail by the first of them that is no line of this kind. That a table is one of a
+/// Lines of one kind, one after the other, fail by the first of them that is no line of this kind. That a table is one of a
 /// quandle is part of the content of its last line; that a move of a tidy list may follow on the one before it is part of the content
 /// of its own line.
 pub fn lines_of_a_kind_fail_in_turn()
@@ -199,7 +202,7 @@ pub fn lines_of_a_kind_fail_in_turn()
         ≡ rows_fault order order (λ entries. is_none (first_fault_within order (record { order = order; entries = entries }))) text }
 {}
 
-/// A text fails by its items in turn, and what stands behind the last of them is malformed; a list of quandles fails by the
+/// A text fails by its items in turn, and what follows the last of them is malformed; a list of quandles fails by the
 /// quandles that it lists.
 pub fn a_text_fails_by_its_items_in_turn()
     ensures problem_front { (text : Text) → read_fault (problem_item text)
@@ -231,7 +234,7 @@ pub fn a_text_fails_by_its_items_in_turn()
         (λ q text. item_then (list_item one q.table.order text) (λ list text. read_fault (list_item two q.table.order text))) }
 {}
 
-/// An item is read from the front of a text in the same way whatever whole lines are put behind the text.
+/// An item is read from the front of a text in the same way whatever whole lines are put after the text.
 pub fn items_are_read_whatever_stands_behind()
     ensures grid { IsStable grid_item }
     ensures braid { IsStable braid_item }
@@ -243,7 +246,7 @@ pub fn items_are_read_whatever_stands_behind()
     ensures verdict { (one two : ℕ) → IsStable (verdict_item one two) }
 {}
 
-/// A problem is read in the same way where lines are put behind it, if the first of them begins with no `quandle`.
+/// A problem is read in the same way where lines are put after it, if the first of them begins with no `quandle`.
 pub fn a_problem_is_read_before_other_lines()
     ensures { (text : Text) (p : ProblemText) (rest : Text) → problem_item text ≡ Ok (p, rest)
         → (more : List NumberedLine) (ending : ℕ) → first_starts (codes "quandle") more ≡ false
@@ -264,7 +267,7 @@ pub fn the_colours_of_a_replay_are_colours()
         → AreColours (column_count r.diagram) q.table.order c.items }
 {}
 
-/// An item is read as a value exactly where the value has a text and the lines of this text stand in front of what is
+/// An item is read as a value exactly where the value has a text and the lines of this text come before what is
 /// left, token for token; an inserted letter 0 alone may be written in two ways, `0` and `-0`. So whatever else a line says
 /// is refused, and all else is read.
 pub fn what_is_read_is_written_there()
@@ -289,7 +292,7 @@ pub fn what_is_read_is_written_there()
 
 /// A text is read as a value exactly where the value has a text and the lines that say something are the lines of this
 /// text, token for token: those of its items in order, and no others. Of the quandles of a problem these are the lines of
-/// those that are listed; where there are none, the built-in list stands for them. An inserted letter 0 may be written `-0`.
+/// those that are listed; where there are none, the built-in list takes their place. An inserted letter 0 may be written `-0`.
 pub fn a_text_is_read_as_what_it_says()
     ensures problem { (bytes : List ℕ) (p : ProblemText) → problem_of bytes ≡ Ok p ↔ IsProblemText (said_by bytes) p }
     ensures check { (bytes : List ℕ) (p : ProblemText) (v : Verdict) → check_of bytes ≡ Ok (p, v) ↔ IsCheckText (said_by bytes) p v }
@@ -303,7 +306,7 @@ pub fn a_text_is_read_as_what_it_says()
     ensures weights { (bytes : List ℕ) (w : WeightText) → weight_of bytes ≡ Ok w ↔ (HasWeightText w × (said_by bytes ≡ weight_lines w)) }
 {}
 
-/// A printed grid and printed moves are read as a replay, and with a printed quandle and printed colours behind them as one
+/// A printed grid and printed moves are read as a replay, and with a printed quandle and printed colours after them as one
 /// that carries colours.
 pub fn a_printed_replay_is_read()
     ensures moves { (d : Marks) (moves : List Move) → IsGrid d → HaveMovesText moves

@@ -8,7 +8,7 @@ ghost use Rattle.text_lines.specs.NumberTokens.{number_of};
 ghost use Rattle.text_lines.specs.Spelled.{lines_text, is_line, numbered};
 ghost use Rattle.text_lines.specs.declared.numbers.TheConstants.{MAX_DIGITS, OVERLONG};
 
-/// Bytes behind whole lines add lines behind theirs, with the numbers that follow, and change none of theirs.
+/// Bytes after whole lines add lines after theirs, with the numbers that follow, and change none of theirs.
 pub fn a_text_goes_on_behind_whole_lines()
     ensures lines { (n : ℕ) (front back : List ℕ) → are_whole_lines front ≡ true
         → (text_from n (front ++ back)).lines ≡ (text_from n front).lines ++ (text_from (n + line_count front) back).lines }
@@ -16,13 +16,13 @@ pub fn a_text_goes_on_behind_whole_lines()
         → (text_from n (front ++ back)).ending ≡ (text_from (n + line_count front) back).ending }
 {}
 
-/// A line feed behind a last line that lacks it changes no line, nor where the text ends; then the bytes are whole lines.
+/// A line feed after a last line that lacks it changes no line, nor where the text ends; then the bytes are whole lines.
 pub fn a_last_line_may_lack_its_feed()
     ensures same { (n : ℕ) (bytes : List ℕ) → are_whole_lines bytes ≡ false → text_from n (bytes ++ codes "\n") ≡ text_from n bytes }
     ensures whole { (bytes : List ℕ) → are_whole_lines (bytes ++ codes "\n") ≡ true }
 {}
 
-/// Lines that are written with one space between their tokens are read as these tokens, whatever stands behind them.
+/// Lines that are written with one space between their tokens are read as these tokens, whatever follows them.
 pub fn written_lines_are_read()
     ensures { (n : ℕ) (lines : List (List (List ℕ))) (more : List ℕ) → list_all is_line lines ≡ true
         → text_from n (lines_text lines ++ more) ≡ record {

@@ -1,5 +1,6 @@
 //! Laws of single definitions: steps of braids, the order of edges and of loops, the order of offers.
-ghost use Rattle.std.specs.Prelude.{◌≡◌, ◌↔◌, ◌<◌, ◌≤◌, ◌+◌, ◌++◌, ◌∷◌, [], ℕ, ℤ, Bool, List, true, length, map, take, drop, slice_index, neg_ℤ, Contains, AllPairs};
+ghost use Rattle.std.specs.Prelude.{◌≡◌, ◌↔◌, ◌<◌, ◌≤◌, ◌+◌, ◌++◌, ◌∷◌, [], ℕ, ℤ, Bool, List, true, length};
+ghost use Rattle.std.specs.Prelude.{map, take, drop, slice_index, neg_ℤ, Contains, AllPairs};
 ghost use Rattle.grid_core.specs.Diagram.{Diagram, size};
 ghost use Rattle.quandle_core.specs.Quandle.{Table};
 ghost use Rattle.braid_moves.specs.Step.{letter_of_crossing, moved};
@@ -16,7 +17,7 @@ ghost use Rattle.text_laws.specs.Words.{braid_word};
 ghost use Rattle.text_laws.specs.Named.{NamesOnly};
 ghost use Rattle.text_laws.specs.Parts.{part};
 
-/// Each step of a braid word puts letters in the place of others, and leaves those in front and behind as they are.
+/// Each step of a braid word puts letters in the place of others, and leaves those before and after as they are.
 pub fn a_step_rewrites_letters_in_their_place()
     ensures far { (m : ℕ) (front back : List ℤ) (a b : ℤ)
         → moved (braid_word m (front ++ a ∷ b ∷ back)) (step.Far (length front)) ≡ braid_word m (front ++ b ∷ a ∷ back) }
@@ -33,14 +34,14 @@ pub fn a_step_rewrites_letters_in_their_place()
         → moved (braid_word (m + 1) (letters ++ letter_of_crossing m positive ∷ [])) step.Shrink ≡ braid_word m letters }
 {}
 
-/// The loops of a diagram stand by their least columns, and are its components without a passage.
+/// The loops of a diagram are sorted by their least columns, and are its components without a passage.
 pub fn loops_stand_by_their_least_columns()
     ensures order { (d : Diagram) → AllPairs (λ a b. a < b) (loops d) }
     ensures loops { (d : Diagram) (s : ℕ)
         → Contains (loops d) s ↔ ((s < size d) × (is_least d s ≡ true) × (passages_from d s ≡ [])) }
 {}
 
-/// A list of colours of a code has those of the edges first, by the passages to which they lead, and behind them those of the loops.
+/// A list of colours of a code has those of the edges first, by the passages to which they lead, and after them those of the loops.
 pub fn edges_stand_before_loops()
     ensures edges { (t : Table) (d : Diagram) (colours : List ℕ)
         → take (length (passages d)) (edge_colours t d colours) ≡ map (arriving t d colours) (passages d) }

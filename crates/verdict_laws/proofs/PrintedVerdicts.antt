@@ -76,7 +76,8 @@ lists_text : (t : Table) (d : Diagram) (lists : List (ArrayVec ℕ)) → lists_o
 lists_text t d lists is few = record {
   count = few;
   each = of_items (AreColours (size d) t.order) lists (subst (AllByRecursion (AreColours (size d) t.order)) (sym is)
-      (of_each (λ c. is_colouring t d c ≡ true) (AreColours (size d) t.order) (colourings t d) (λ c colouring. (coloured t d c colouring).colours_are) (kept (is_colouring t d) (all_lists t.order (size d)))));
+      (of_each (λ c. is_colouring t d c ≡ true) (AreColours (size d) t.order) (colourings t d) (λ c colouring. (coloured t d c colouring).colours_are)
+      (kept (is_colouring t d) (all_lists t.order (size d)))));
 }
 
 -- ---- verdicts

@@ -10,32 +10,32 @@ use Rattle.colour_seeds.specs.Seeded.{HasKnown, IsFault, Reaches}
 use Rattle.colour_seeds.specs.declared.seeding.SeedFault.TheVariants.{Outside, Unsettled}
 use Rattle.colour_seeds.specs.declared.progress.Step.{Step}
 use Rattle.colour_seeds.specs.declared.progress.Step.TheVariants.{Seed}
-use Rattle.colour_seeds.specs.declared.progress.Progress.{Progress}
+use Rattle.colour_seeds.specs.declared.progress.SeedProgress.{SeedProgress}
 use Rattle.colour_seeds.specs.Plan.{is_known, is_read, next_step, progress_after, nothing, LeadsBySteps, seeds_in, IsPlan}
 use Rattle.colour_seeds.proofs.Ways.{Next, step_next, step_keeps, leads_more, reaches_itself, reaches_more, no_seed_more, one_seed_more, seed_reaches}
 use Rattle.colour_seeds.proofs.Ways.{unread, mark_here, nothing_known, sound_leads, sound_nothing, known_closed, all_read}
 
 -- ---- all that follows from what is known
 
-record EndOf (d : Diagram) (g : Progress) (before : List Step) : Type 0 where
+record EndOf (d : Diagram) (g : SeedProgress) (before : List Step) : Type 0 where
   steps : List Step
-  last : Progress
+  last : SeedProgress
   leads : LeadsBySteps d nothing steps last
   stuck : next_step d last ≡ None
   reaches : Reaches d g last
   few : seeds_in steps ≡ seeds_in before
 
-then_on : (d : Diagram) (g h k : Progress) → Reaches d g h → Reaches d h k → Reaches d g k
+then_on : (d : Diagram) (g h k : SeedProgress) → Reaches d g h → Reaches d h k → Reaches d g k
 then_on d g h k first second = record {
   keeps = λ c e. second.keeps c (first.keeps c e);
   only = λ p closed from. second.only p closed (first.only p closed from);
 }
 
-end_of : (n : ℕ) (d : Diagram) (g : Progress) (steps : List Step) → IsGrid d → LeadsBySteps d nothing steps g → unread g < n → EndOf d g steps
+end_of : (n : ℕ) (d : Diagram) (g : SeedProgress) (steps : List Step) → IsGrid d → LeadsBySteps d nothing steps g → unread g < n → EndOf d g steps
 end_of zero d g steps grid leads few = absurd (omega (arith, few))
 end_of (suc n) d g steps grid leads few = by (next_step d g) refl (λ h later on fewer. end_of n d h later grid on fewer)
   where
-    by : (o : Option Step) → next_step d g ≡ o → ((h : Progress) (later : List Step) → LeadsBySteps d nothing later h → unread h < n → EndOf d h later)
+    by : (o : Option Step) → next_step d g ≡ o → ((h : SeedProgress) (later : List Step) → LeadsBySteps d nothing later h → unread h < n → EndOf d h later)
         → EndOf d g steps
     by None stuck again = record { steps = steps; last = g; leads = leads; stuck = stuck; reaches = reaches_itself d g; few = refl }
     by (Some s) is again =
@@ -55,14 +55,14 @@ end_of (suc n) d g steps grid leads few = by (next_step d g) refl (λ h later on
 -- steps by these seeds that lead from nothing to where no row does anything
 pub record WayOf (d : Diagram) (seeds : List ℕ) : Type 0 where
   pub steps : List Step
-  pub last : Progress
+  pub last : SeedProgress
   pub leads : LeadsBySteps d nothing steps last
   pub stuck : next_step d last ≡ None
   pub taken : All (λ s. is_known last s ≡ true) seeds
   pub settled : (c : ℕ) → is_known last c ≡ true → IsSettled d seeds c
   pub few : seeds_in steps ≤ length seeds
 
-all_known : (g h : Progress) (seeds : List ℕ) → HasKnown (is_known h) g → All (λ s. is_known g s ≡ true) seeds → All (λ s. is_known h s ≡ true) seeds
+all_known : (g h : SeedProgress) (seeds : List ℕ) → HasKnown (is_known h) g → All (λ s. is_known g s ≡ true) seeds → All (λ s. is_known h s ≡ true) seeds
 all_known g h [] keeps all = All-nil (λ s. is_known h s ≡ true)
 all_known g h (s ∷ seeds) keeps all =
     All-cons (λ s. is_known h s ≡ true) s seeds (keeps s (All-head (λ s. is_known g s ≡ true) s seeds all))
@@ -143,10 +143,10 @@ first_outside d (s ∷ seeds) = elim (cases_lt s (size d)) [
         before (suc j) lt = fault.4 j (omega (arith, lt))
 
 -- the first column that is not known
-abbrev FirstUnknown : ℕ → Progress → Type 0
+abbrev FirstUnknown : ℕ → SeedProgress → Type 0
 FirstUnknown n g = (c : ℕ) × ((c < n) × ((is_known g c ≡ false) × ((b : ℕ) → b < c → is_known g b ≡ true)))
 
-first_unknown : (n : ℕ) (g : Progress) → ((c : ℕ) → c < n → is_known g c ≡ true) ⊎ FirstUnknown n g
+first_unknown : (n : ℕ) (g : SeedProgress) → ((c : ℕ) → c < n → is_known g c ≡ true) ⊎ FirstUnknown n g
 first_unknown zero g = inl (λ c lt. absurd (omega (arith, lt)))
 first_unknown (suc n) g = elim (first_unknown n g) [
   | inl all ↦ by (is_known g n) refl all

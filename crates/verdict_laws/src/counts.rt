@@ -14,7 +14,7 @@ ghost use Rattle.number_check.specs.Ruling.{RulesOnEvidence};
 
 use number_check::NumberRuling;
 
-/// Evidence by numbers that holds tells apart: no list of moves joins the two diagrams.
+/// Evidence by numbers that holds distinguishes: no list of moves joins the two diagrams.
 pub fn what_holds_tells_apart()
     ensures numbers { (d e : Diagram) (b : Block) (one two : Counted) → IsQuandle b.listed.table → IsCocycleOrNone b.cocycle
         → EvidenceHolds d e (Numbers b one two) → Equivalent d e → ⊥ }

@@ -14,7 +14,7 @@ use grid_moves::Move;
 use verdict_core::Verdict;
 
 /// Evidence that holds proves what the verdict claims: moves that join the diagrams, that they are equivalent; lists by which
-/// a quandle tells them apart, that they are not.
+/// a quandle distinguishes them, that they are not.
 pub fn what_holds_is_true()
     ensures equal { (d e : Diagram) (moves : List Move) → VerdictHolds d e (Verdict.Equal moves) → Claims d e (Verdict.Equal moves) }
     ensures different { (d e : Diagram) (listed : NamedQuandle) (one two : List (ArrayVec ℕ))
@@ -55,7 +55,7 @@ pub fn an_accepted_verdict_is_true()
         → ⊥ }
 {}
 
-/// Two lists have no cause exactly where the quandle tells the diagrams apart by them.
+/// Two lists have no cause exactly where the quandle distinguishes the diagrams by them.
 pub fn lists_without_a_cause_tell_apart()
     ensures { (t : Table) (d e : Diagram) (one two : List (List ℕ)) → (cause_of_lists t d e one two ≡ None) ↔ TellsApart t d e one two }
 {}

@@ -19,8 +19,8 @@ tidy_more before front count i text n after total lt h so_far =
     rw (k, h) (regroup front n (tidy_moves (Some n) (count - (i + 1)) after)) in
     sym one ∙ so_far
 
-pub tidy_fails : (before : Option Move) (e : TextFault) (front : List Move) (count i : ℕ) (text : Text) (total : Result (List Move × Text) TextFault) → i < count
-    → Fails e (tidy_move before text) → with_front front (tidy_moves before (count - i) text) ≡ total → Fails e total
+pub tidy_fails : (before : Option Move) (e : TextFault) (front : List Move) (count i : ℕ) (text : Text) (total : Result (List Move × Text) TextFault)
+    → i < count → Fails e (tidy_move before text) → with_front front (tidy_moves before (count - i) text) ≡ total → Fails e total
 unfolding tidy_moves
 tidy_fails before fault.OutOfMemory front count i text total lt h so_far = tt
 tidy_fails before (fault.Malformed n) front count i text total lt h so_far =

@@ -7,7 +7,7 @@ use cocycle_core::Cocycle;
 use quandle_core::Quandle;
 use std::alloc::Global;
 use text_items::reading::next_line;
-use text_items::rows::{numbers_below, table_front};
+use text_items::rows::{number_row, table_front};
 use text_items::{TextFault, modulus_at};
 use text_lines::Lines;
 
@@ -39,7 +39,7 @@ fn cochain_item(
     let mut entries = table_front(alloc, order, modulus, lines)?;
     let mut line = next_line(lines)?;
     let at = line.number();
-    let row = numbers_below(alloc, order, modulus, &mut line)?;
+    let row = number_row(alloc, order, modulus, &mut line)?;
     entries.extend_from_slice(row.as_slice())?;
     match Cocycle::new(quandle, modulus, entries.as_slice()) {
         Ok(cocycle) => Ok(cocycle),

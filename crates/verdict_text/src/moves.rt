@@ -1,7 +1,8 @@
 //! Moves, a line each, and the item of several.
 ghost use Rattle.std.specs.Prelude.{◌≡◌, None};
 ghost use Rattle.text_items.specs.Reading.{Gives};
-ghost use Rattle.verdict_text.specs.Moves.{last_place, shift, exchange, slide, kind_at, corner_at, stabilise, destabilise, move_at, next_move, move_lines, tidy_move_at, tidy_move, tidy_moves, moves_item};
+ghost use Rattle.verdict_text.specs.Moves.{last_place, shift, exchange, slide, kind_at, corner_at, stabilise, destabilise};
+ghost use Rattle.verdict_text.specs.Moves.{move_at, next_move, move_lines, tidy_move_at, tidy_move, tidy_moves, moves_item};
 
 use grid_core::{Corner, Kind};
 use grid_moves::{Move, may_follow};

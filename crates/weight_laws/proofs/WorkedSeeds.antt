@@ -1,5 +1,5 @@
--- Worked examples: plans of the unknot of two columns, of two rings and of the right trefoil, read off the diagrams by hand, with what they leave, by computing;
--- and that the first column of the trefoil settles the fourth alone.
+-- Worked examples: plans of the unknot of two columns, of two rings and of the right trefoil, read off the diagrams by hand, with what they leave, by
+-- computing; and that the first column of the trefoil settles the fourth alone.
 use Rattle.std.proofs.Common.{◌≡◌, ◌<◌, ◌∙◌, ◌==◌, ◌||◌, ℕ, zero, suc, List, [], ◌∷◌, Bool, true, false, None, length, replicate, refl, sym, ap, arith}
 use Rattle.std.specs.List.{range_with_len, list_all}
 use Rattle.std.proofs.lemmas.Bool.{both_ways}
@@ -14,7 +14,7 @@ use Rattle.grid_core.specs.Parts.{ends}
 use Rattle.quandle_core.specs.Tables.{trivial, dihedral, tetrahedral}
 use Rattle.colour_seeds.specs.declared.progress.Step.{Step}
 use Rattle.colour_seeds.specs.declared.progress.Step.TheVariants.{Seed, Rightward, Leftward, Test}
-use Rattle.colour_seeds.specs.declared.progress.Progress.{Progress}
+use Rattle.colour_seeds.specs.declared.progress.SeedProgress.{SeedProgress}
 use Rattle.colour_seeds.specs.Settled.{HasOvers, IsSettled}
 use Rattle.colour_seeds.specs.Plan.{LeadsBySteps, IsPlan, progress_after, is_known, is_read, next_step, nothing, seed_columns, seeds_in}
 use Rattle.colour_seeds.specs.FewWays.{few_ways}
@@ -26,7 +26,7 @@ passes p n all k lt a is =
     ap p (is ∙ sym (get_or-range_with_len 0 n k 0 lt ∙ omega arith))
     ∙ AllPass-from_list_all p (range_with_len 0 n) all k 0 (omega (arith, lt, length-range_with_len 0 n))
 
-plan_by : (d : Diagram) (steps : List Step) (last : Progress) → LeadsBySteps d nothing steps last → list_all (is_known last) (range_with_len 0 (size d)) ≡ true
+plan_by : (d : Diagram) (steps : List Step) (last : SeedProgress) → LeadsBySteps d nothing steps last → list_all (is_known last) (range_with_len 0 (size d)) ≡ true
     → list_all (is_read last) (range_with_len 0 (size d)) ≡ true → IsPlan d steps
 plan_by d steps last leads known read = record {
   last = last;
@@ -36,7 +36,7 @@ plan_by d steps last leads known read = record {
 }
 
 -- behind the steps
-abbrev behind_all : Diagram → Progress → List Step → Progress
+abbrev behind_all : Diagram → SeedProgress → List Step → SeedProgress
 behind_all d g [] = g
 behind_all d g (s ∷ steps) = behind_all d (progress_after d g s) steps
 
@@ -45,7 +45,8 @@ abbrev unknot_plan : List Step
 unknot_plan = Seed 0 ∷ Rightward 0 ∷ Test 1 ∷ []
 
 unknot_is : IsPlan unknot unknot_plan
-unknot_is = plan_by unknot unknot_plan (behind_all unknot nothing unknot_plan) ((omega arith, refl), ((omega arith, refl), ((omega arith, refl), refl))) refl refl
+unknot_is = plan_by unknot unknot_plan (behind_all unknot nothing unknot_plan)
+    ((omega arith, refl), ((omega arith, refl), ((omega arith, refl), refl))) refl refl
 
 unknot_leaves : leaves (dihedral 3) unknot unknot_plan (0 ∷ 0 ∷ []) ≡ (0 ∷ 0 ∷ []) ∷ (1 ∷ 1 ∷ []) ∷ (2 ∷ 2 ∷ []) ∷ []
 unknot_leaves = refl
@@ -68,7 +69,8 @@ rings_seeds = refl
 rings_stuck : next_step two_rings (behind_all two_rings nothing (Seed 0 ∷ Rightward 0 ∷ Test 1 ∷ [])) ≡ None
 rings_stuck = refl
 
-rings_leaves : leaves (trivial 2) two_rings rings_plan (0 ∷ 0 ∷ 0 ∷ 0 ∷ []) ≡ (0 ∷ 0 ∷ 0 ∷ 0 ∷ []) ∷ (0 ∷ 0 ∷ 1 ∷ 1 ∷ []) ∷ (1 ∷ 1 ∷ 0 ∷ 0 ∷ []) ∷ (1 ∷ 1 ∷ 1 ∷ 1 ∷ []) ∷ []
+rings_leaves : leaves (trivial 2) two_rings rings_plan (0 ∷ 0 ∷ 0 ∷ 0 ∷ []) ≡ (0 ∷ 0 ∷ 0 ∷ 0 ∷ []) ∷ (0 ∷ 0 ∷ 1 ∷ 1 ∷ []) ∷ (1 ∷ 1 ∷ 0 ∷ 0 ∷ [])
+    ∷ (1 ∷ 1 ∷ 1 ∷ 1 ∷ []) ∷ []
 rings_leaves = refl
 
 -- two seeds of the right trefoil: row 4 joins the columns 0 and 3; under column 1, row 2 then joins 0 and 2; row 0 joins 2 and 4
@@ -77,15 +79,21 @@ trefoil_plan = Seed 0 ∷ Rightward 4 ∷ Seed 1 ∷ Rightward 2 ∷ Rightward 0
 
 trefoil_is : IsPlan right_trefoil trefoil_plan
 trefoil_is =
-    plan_by right_trefoil trefoil_plan (behind_all right_trefoil nothing trefoil_plan)
-    ((omega arith, refl), ((omega arith, refl), ((omega arith, refl), ((omega arith, refl), ((omega arith, refl), ((omega arith, refl), ((omega arith, refl), refl))))))) refl refl
+    plan_by right_trefoil trefoil_plan (behind_all right_trefoil nothing trefoil_plan) (
+      (omega arith, refl),
+      (
+        (omega arith, refl),
+        ((omega arith, refl), ((omega arith, refl), ((omega arith, refl), ((omega arith, refl), ((omega arith, refl), refl))))),
+      ),
+    ) refl refl
 
 trefoil_leaves : leaves (dihedral 3) right_trefoil trefoil_plan (0 ∷ 0 ∷ 0 ∷ 0 ∷ 0 ∷ []) ≡ (0 ∷ 0 ∷ 0 ∷ 0 ∷ 0 ∷ []) ∷ (0 ∷ 1 ∷ 2 ∷ 0 ∷ 2 ∷ [])
     ∷ (0 ∷ 2 ∷ 1 ∷ 0 ∷ 1 ∷ []) ∷ (1 ∷ 0 ∷ 2 ∷ 1 ∷ 2 ∷ []) ∷ (1 ∷ 1 ∷ 1 ∷ 1 ∷ 1 ∷ []) ∷ (1 ∷ 2 ∷ 0 ∷ 1 ∷ 0 ∷ []) ∷ (2 ∷ 0 ∷ 1 ∷ 2 ∷ 1 ∷ [])
     ∷ (2 ∷ 1 ∷ 0 ∷ 2 ∷ 0 ∷ []) ∷ (2 ∷ 2 ∷ 2 ∷ 2 ∷ 2 ∷ []) ∷ []
 trefoil_leaves = refl
 
-trefoil_numbers : length (leaves tetrahedral right_trefoil trefoil_plan (replicate MAX_SIZE 0)) ∷ length (leaves (dihedral 5) right_trefoil trefoil_plan (replicate MAX_SIZE 0))
+trefoil_numbers : length (leaves tetrahedral right_trefoil trefoil_plan (replicate MAX_SIZE 0))
+    ∷ length (leaves (dihedral 5) right_trefoil trefoil_plan (replicate MAX_SIZE 0))
     ∷ [] ≡ 16 ∷ 5 ∷ []
 trefoil_numbers = refl
 

@@ -102,7 +102,8 @@ pub fn slide_rows()
 
 /// A stabilisation carries each colouring to one of the same weight, with the same colour of the outer region.
 pub fn stabilise()
-    ensures { (t : ShadowCochain) (d e : Diagram) (c : ℕ) (kind : Kind) (corner : Corner) (colours : List ℕ) (outer : ℕ) → IsShadowCocycle t → Step d (Move.Stabilise c kind corner) e
+    ensures { (t : ShadowCochain) (d e : Diagram) (c : ℕ) (kind : Kind) (corner : Corner) (colours : List ℕ) (outer : ℕ) → IsShadowCocycle t
+        → Step d (Move.Stabilise c kind corner) e
         → IsColouring t.quandle d colours → outer < t.quandle.order
         → shadow_weight t e (carried t.quandle d (Move.Stabilise c kind corner) colours) outer ≡ shadow_weight t d colours outer }
 {}
@@ -121,7 +122,8 @@ pub fn every_move_keeps_the_weight()
         → shadow_weight t e (carried t.quandle d move colours) outer ≡ shadow_weight t d colours outer }
 {}
 
-/// Equivalent diagrams have as many pairs of a colouring and a colour of the outer region of each weight. So two diagrams whose shadow weights differ are not equivalent.
+/// Equivalent diagrams have as many pairs of a colouring and a colour of the outer region of each weight. So two diagrams whose
+/// shadow weights differ are not equivalent.
 pub fn equivalent_diagrams_have_equal_shadow_weights()
     ensures equal { (t : ShadowCochain) (d e : Diagram) → IsShadowCocycle t → Equivalent d e → shadow_weights t d ≡ shadow_weights t e }
     ensures different { (t : ShadowCochain) (d e : Diagram) → IsShadowCocycle t → shadow_weights t d ≢ shadow_weights t e → Equivalent d e → ⊥ }

@@ -60,7 +60,8 @@ pub fn slide_rows()
 
 /// A stabilisation, of either kind and at each corner, carries each colouring to one of the same weight.
 pub fn stabilise()
-    ensures { (w : Cochain) (d e : Diagram) (c : ℕ) (kind : Kind) (corner : Corner) (colours : List ℕ) → IsCocycle w → Step d (Move.Stabilise c kind corner) e → IsColouring w.quandle d colours
+    ensures { (w : Cochain) (d e : Diagram) (c : ℕ) (kind : Kind) (corner : Corner) (colours : List ℕ) → IsCocycle w
+        → Step d (Move.Stabilise c kind corner) e → IsColouring w.quandle d colours
         → weight w e (carried w.quandle d (Move.Stabilise c kind corner) colours) ≡ weight w d colours }
 {}
 

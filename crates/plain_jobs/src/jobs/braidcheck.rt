@@ -77,7 +77,7 @@ fn braid_step_line(
     Ok(out)
 }
 
-/// Appends the first step that is not legal, each token behind a space.
+/// Appends the first step that is not legal, each token after a space.
 fn push_braid_step(out: &mut Vec<u8>, place: usize, fault: BraidMoveFault) -> Result<(), AllocError>
     ensures { OnOk result (out.new.items ≡ out.old.items ++ flat_map spaced (braid_step_tokens place fault)) }
 {
@@ -85,7 +85,7 @@ fn push_braid_step(out: &mut Vec<u8>, place: usize, fault: BraidMoveFault) -> Re
     push_braid_fault(out, fault)
 }
 
-/// Appends why a step is not legal, each token behind a space.
+/// Appends why a step is not legal, each token after a space.
 fn push_braid_fault(out: &mut Vec<u8>, fault: BraidMoveFault) -> Result<(), AllocError>
     ensures { OnOk result (out.new.items ≡ out.old.items ++ flat_map spaced (braid_fault_tokens fault)) }
 {

@@ -22,8 +22,8 @@ are_joined-requires-clause-count c =
     c.requires.rows.edges ∙ ap (λ (n : ℕ). 2 * n) (sym same)
 
 -- where there are Gauss lines, the code with their signs is the only one that may have them
-pub returns-then-not-agrees-clause-none : goal.returns-then-not-agrees-clause-none
-returns-then-not-agrees-clause-none c =
+pub returns-then-not-agrees_with_gauss-clause-none : goal.returns-then-not-agrees_with_gauss-clause-none
+returns-then-not-agrees_with_gauss-clause-none c =
     let t = c.args.text.now in
     let code = c.args.code in
     let said : Code = record { crossings = c.from_vec.result; edges = code.edges; loops = code.loops } in
@@ -35,13 +35,14 @@ returns-then-not-agrees-clause-none c =
       code = (code, c.requires.rows, c.requires.faultless);
       none = λ other says.
           let passages = c.as_slice.ensures.value ∙ (c.in_ok-passages.ensures ∙ ap all_of c.as_slice-walks.ensures) in
-          let by_slice = subst (λ (xs : List Crossing). AreSigned c.as_slice.result.now xs c.in_ok-crossings.crossings.items) c.as_slice-2.ensures c.in_ok-crossings.ensures in
+          let by_slice = subst (λ (xs : List Crossing). AreSigned c.as_slice.result.now xs c.in_ok-crossings.crossings.items)
+          c.as_slice-2.ensures c.in_ok-crossings.ensures in
           let by_items = subst (λ (ps : List GaussPassage). AreSigned ps code.crossings c.in_ok-crossings.crossings.items) passages by_slice in
           let are = subst (λ (ys : List Crossing). AreSigned (all_of t.walks) code.crossings ys) (sym c.from_vec.ensures) by_items in
           let same = code_forced t.rows t.loops t.walks code said other some c.requires.rows are refl refl says.rows says.gauss in
           let has : agrees_with_gauss said t.walks ≡ true = subst (λ (z : Code). agrees_with_gauss z t.walks ≡ true) same says.gauss in
           let lacks : agrees_with_gauss said t.walks ≡ false =
-          ap (agrees_with_gauss said) (sym c.as_slice-walks.ensures) ∙ (sym c.agrees.ensures ∙ c.if-not-agrees.true) in
+          ap (agrees_with_gauss said) (sym c.as_slice-walks.ensures) ∙ (sym c.agrees_with_gauss.ensures ∙ c.if-not-agrees_with_gauss.true) in
           true≢false (sym has ∙ lacks);
     }
 
@@ -58,7 +59,8 @@ returns-then-not-are_joined-clause-none c =
       code = (code, c.requires.rows, c.requires.faultless);
       none = λ other says.
           let passages = c.as_slice.ensures.value ∙ (c.in_ok-passages.ensures ∙ ap all_of c.as_slice-walks.ensures) in
-          let by_slice = subst (λ (xs : List Crossing). AreSigned c.as_slice.result.now xs c.in_ok-crossings.crossings.items) c.as_slice-2.ensures c.in_ok-crossings.ensures in
+          let by_slice = subst (λ (xs : List Crossing). AreSigned c.as_slice.result.now xs c.in_ok-crossings.crossings.items)
+          c.as_slice-2.ensures c.in_ok-crossings.ensures in
           let by_items = subst (λ (ps : List GaussPassage). AreSigned ps code.crossings c.in_ok-crossings.crossings.items) passages by_slice in
           let are = subst (λ (ys : List Crossing). AreSigned (all_of t.walks) code.crossings ys) (sym c.from_vec.ensures) by_items in
           let same = code_forced t.rows t.loops t.walks code said other some c.requires.rows are refl refl says.rows says.gauss in
@@ -85,5 +87,5 @@ returns-clause-some c =
       rows = of;
       faultless = joined_faultless t.rows t.loops code said c.requires.few c.requires.paired c.requires.rows of c.requires.faultless
           (c.are_joined.ensures.0 c.if-not-are_joined.false);
-      gauss = ap (agrees_with_gauss said) (sym c.as_slice-walks.ensures) ∙ (sym c.agrees.ensures ∙ c.if-not-agrees.false);
+      gauss = ap (agrees_with_gauss said) (sym c.as_slice-walks.ensures) ∙ (sym c.agrees_with_gauss.ensures ∙ c.if-not-agrees_with_gauss.false);
     }

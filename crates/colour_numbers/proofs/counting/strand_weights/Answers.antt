@@ -18,5 +18,6 @@ returns-clause-wide c =
 
 pub returns-clause-fault : goal.returns-clause-fault
 returns-clause-fault c =
-    subst (λ (w : Cochain). IfErr c.weights_by_seeds.result (λ e. e ≡ fault.OutOfMemory ⊎ (few_ways w.quandle (seeds_in c.args.seeding.now) ≡ false) × (e ≡ fault.TooWide)))
+    subst (λ (w : Cochain). IfErr c.weights_by_seeds.result (λ e. e ≡ fault.OutOfMemory ⊎ (few_ways w.quandle (seeds_in c.args.seeding.now) ≡ false) ×
+    (e ≡ fault.TooWide)))
     c.values-values.ensures c.weights_by_seeds.ensures.fault

@@ -10,9 +10,9 @@ pub tally_all-requires-clause-few : goal.tally_all-requires-clause-few
 tally_all-requires-clause-few c =
     let q = c.args.cocycle.now.quandle in
     let s = seeds_in c.args.seeding.now in
-    let few : q.order ^ s ≤ MAX_CANDIDATES = few_choices q s c.fits.result
-    (whether_fits c.quandle.result.now q c.len.result s c.fits.result c.fits.ensures c.quandle.ensures (c.len.ensures.value ∙ c.seeds.ensures.count))
-    c.if-not-fits.false in
+    let few : q.order ^ s ≤ MAX_CANDIDATES = few_choices q s c.few_ways.result
+    (whether_fits c.quandle.result.now q c.len.result s c.few_ways.result c.few_ways.ensures c.quandle.ensures (c.len.ensures.value ∙ c.seeds.ensures.count))
+    c.if-not-few_ways.false in
     omega (arith, few)
 
 pub returns-clause-weights : goal.returns-clause-weights

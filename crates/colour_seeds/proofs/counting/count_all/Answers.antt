@@ -37,7 +37,8 @@ overflow_mul-result c =
 pub returns-then-is_connected : goal.returns-then-is_connected
 returns-then-is_connected c =
     ap (λ (q : ℕ). q * c.count_from.result) (c.from.ensures ∙ c.order-order.ensures.order)
-    ∙ connected_count c.args.quandle.now c.args.grid.now c.args.steps.now c.in-Some.rest.now c.in-Some.first.now c.count_from.result c.order-order.ensures.quandle
+    ∙ connected_count c.args.quandle.now c.args.grid.now c.args.steps.now c.in-Some.rest.now c.in-Some.first.now c.count_from.result
+    c.order-order.ensures.quandle
     c.size-size.ensures.grid (c.is_connected.ensures.connected c.if-is_connected.true) c.requires.plan c.in-Some.ensures.cases
     (sym c.is_seed.ensures ∙ c.if-is_seed.true) c.count_from.ensures.count
 

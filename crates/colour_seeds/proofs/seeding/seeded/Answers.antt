@@ -2,7 +2,7 @@ use Rattle.std.proofs.Common.{◌∙◌, inr, List, sym, subst}
 use Rattle.std.proofs.lemmas.Result.{IfOk-weaker}
 use Rattle.colour_seeds.specs.declared.progress.Step.{Step}
 use Rattle.colour_seeds.specs.declared.progress.Step.TheVariants.{Seed}
-use Rattle.colour_seeds.specs.declared.progress.Progress.{Progress}
+use Rattle.colour_seeds.specs.declared.progress.SeedProgress.{SeedProgress}
 use Rattle.colour_seeds.specs.Plan.{LeadsBySteps, progress_after, nothing}
 use Rattle.colour_seeds.proofs.Ways.{leads_more}
 use Rattle.colour_seeds.proofs.Seeds.{one_seed_column}
@@ -14,7 +14,7 @@ settle-requires c =
     let g = c.args.way.progress in
     record {
       leads =
-          subst (λ (h : Progress). LeadsBySteps d nothing c.in_ok-begun.begun.steps.items h) (sym c.in_ok-begun.ensures.progress)
+          subst (λ (h : SeedProgress). LeadsBySteps d nothing c.in_ok-begun.begun.steps.items h) (sym c.in_ok-begun.ensures.progress)
           (subst (λ (steps : List Step). LeadsBySteps d nothing steps (progress_after d g (Seed c.args.seed))) (sym c.in_ok-begun.ensures.steps)
           (leads_more d nothing g c.args.way.steps.items (Seed c.args.seed) c.requires.leads (c.requires.column, c.if-way-seed.false)));
     }

@@ -1,6 +1,6 @@
 use Rattle.std.proofs.Common.{◌<◌, ◌∙◌, List, sym, subst}
 use Rattle.colour_seeds.specs.declared.progress.Step.{Step}
-use Rattle.colour_seeds.specs.declared.progress.Progress.{Progress}
+use Rattle.colour_seeds.specs.declared.progress.SeedProgress.{SeedProgress}
 use Rattle.colour_seeds.specs.Plan.{LeadsBySteps, progress_after, nothing}
 use Rattle.colour_seeds.specs.Seeded.{Reaches}
 use Rattle.colour_seeds.proofs.Ways.{step_next, leads_more, reaches_more, no_seed_more, unread}
@@ -14,7 +14,7 @@ with_step-requires c =
 
 pub loop-step-smaller : goal.loop-step-smaller
 loop-step-smaller c =
-    subst (λ (h : Progress). unread h < unread c.loop-step.way.progress) (sym c.in_ok-way.ensures.progress)
+    subst (λ (h : SeedProgress). unread h < unread c.loop-step.way.progress) (sym c.in_ok-way.ensures.progress)
     (step_next c.args.grid.now c.loop-step.way.steps.items c.loop-step.way.progress c.in-Some.step c.next_step.result c.size-size.ensures.grid
     c.loop-step.invariant.leads c.next_step.ensures c.in-Some.is).falls
 
@@ -27,7 +27,7 @@ loop-step-preserved c =
     c.in-Some.is in
     record {
       leads =
-          subst (λ (h : Progress). LeadsBySteps d nothing c.in_ok-way.way.steps.items h) (sym c.in_ok-way.ensures.progress)
+          subst (λ (h : SeedProgress). LeadsBySteps d nothing c.in_ok-way.way.steps.items h) (sym c.in_ok-way.ensures.progress)
           (subst (λ (steps : List Step). LeadsBySteps d nothing steps (progress_after d g s)) (sym c.in_ok-way.ensures.steps)
           (leads_more d nothing g c.loop-step.way.steps.items s c.loop-step.invariant.leads next.allowed));
       reaches =

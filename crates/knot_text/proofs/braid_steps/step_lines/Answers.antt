@@ -13,7 +13,8 @@ returns-in_err-next_step c =
 pub loop-preserved : goal.loop-preserved
 loop-preserved c =
     rw c.in_ok-push.ensures.items (turn_more braid_step_item c.loop.steps.items c.args.count c.loop.counter c.loop.lines
-    c.in_ok-next_step.field-0 c.next_step.new.lines (in_turn braid_step_item c.args.count c.args.lines.now) c.loop-test.true c.in_ok-next_step.ensures c.loop.invariant)
+    c.in_ok-next_step.field-0 c.next_step.new.lines (in_turn braid_step_item c.args.count c.args.lines.now)
+    c.loop-test.true c.in_ok-next_step.ensures c.loop.invariant)
 
 pub returns : goal.returns
 returns c =

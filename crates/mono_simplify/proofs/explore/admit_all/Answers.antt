@@ -24,4 +24,6 @@ returns-then-len-budget-clause-over c =
 
 pub loop-offer-preserved : goal.loop-offer-preserved
 loop-offer-preserved c =
-    admitted c.args.offers.now c.args.place c.args.budget c.loop-offer.offer-index c.len.result _ c.args.class.now c.loop-offer.class c.admit.new.self c.loop-offer-test.true c.len.ensures c.if-len-budget.false c.loop-offer.invariant (sym c.is_exchange.ensures ∙ c.if-not-is_exchange.false) (sym c.holds.ensures ∙ c.if-holds.false) c.in_ok-admit.ensures
+    admitted c.args.offers.now c.args.place c.args.budget c.loop-offer.offer-index c.len.result _ c.args.class.now c.loop-offer.class c.admit.new.self
+    c.loop-offer-test.true c.len.ensures c.if-len-budget.false c.loop-offer.invariant (sym c.is_exchange.ensures ∙ c.if-not-is_exchange.false)
+    (sym c.holds.ensures ∙ c.if-holds.false) c.in_ok-admit.ensures

@@ -8,7 +8,8 @@ use Rattle.mono_simplify.proofs.least.least_grid_by.Goals as goal
 
 pub grid_of-requires : goal.grid_of-requires
 grid_of-requires c =
-    let members = seen_members c.args.grid.now c.args.budget (keys_in c.in_ok-seen.seen.class) c.in_ok-seen.seen.end c.size-size.ensures.grid c.in_ok-seen.ensures.seen in
+    let members = seen_members c.args.grid.now c.args.budget (keys_in c.in_ok-seen.seen.class) c.in_ok-seen.seen.end c.size-size.ensures.grid
+    c.in_ok-seen.ensures.seen in
     let m = member_there c.args.grid.now (keys_in c.in_ok-seen.seen.class) c.least_place-place.result c.key_at.result members c.key_at.ensures in
     (m.form, m.names)
 
@@ -25,5 +26,6 @@ returns c =
       joined = c.in_ok-moves.ensures.joined c.key_at.result m.form c.key_at.ensures m.names m.long;
       kept = c.in_ok-moves.ensures.exchanges;
       canonical = m.own;
-      end = found_end d m.form c.args.budget place keys c.key_at.result c.in_ok-seen.seen.end c.size-size.ensures.grid c.in_ok-seen.ensures.seen c.least_place-place.ensures.least c.key_at.ensures m.names;
+      end = found_end d m.form c.args.budget place keys c.key_at.result c.in_ok-seen.seen.end c.size-size.ensures.grid c.in_ok-seen.ensures.seen
+          c.least_place-place.ensures.least c.key_at.ensures m.names;
     }))

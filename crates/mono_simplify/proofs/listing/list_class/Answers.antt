@@ -66,7 +66,8 @@ loop-place-preserved c =
         whole_few c.args.budget (keys_in new) (with_keys (keys_in old) (exchanges_among seen)) c.in_ok-over.ensures.keys over,
       ),
       omega (arith, c.loop-place.invariant.2, ap length ways.is, more),
-      turned_whole d c.args.budget c.loop-place.place (keys_in old) (keys_in new) key m.form (exchanges_among seen) c.loop-place.invariant.3 c.key_at.ensures m.names exchanges c.in_ok-over.ensures.keys over,
+      turned_whole d c.args.budget c.loop-place.place (keys_in old) (keys_in new) key m.form (exchanges_among seen) c.loop-place.invariant.3
+          c.key_at.ensures m.names exchanges c.in_ok-over.ensures.keys over,
       ways_more d c.loop-place.place key m.form (exchanges_among seen) old new c.loop-place.invariant.4 ways c.key_at.ensures m.names m.long exchanges,
     )
 
@@ -86,7 +87,11 @@ returns-then-over c =
     record {
       some = omega (arith, c.loop-place.invariant.2, ap length ways.is, length-append old ways.more);
       ways = ways_more d c.loop-place.place key m.form (exchanges_among seen) old new c.loop-place.invariant.4 ways c.key_at.ensures m.names m.long exchanges;
-      seen = (refl, turned_cut d c.args.budget c.loop-place.place (keys_in old) (keys_in new) key m.form (exchanges_among seen) c.loop-place.invariant.3 c.key_at.ensures m.names exchanges c.in_ok-over.ensures.keys over);
+      seen = (
+        refl,
+        turned_cut d c.args.budget c.loop-place.place (keys_in old) (keys_in new) key m.form (exchanges_among seen)
+            c.loop-place.invariant.3 c.key_at.ensures m.names exchanges c.in_ok-over.ensures.keys over,
+      );
     }
 
 pub returns : goal.returns

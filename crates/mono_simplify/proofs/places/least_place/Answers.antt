@@ -12,5 +12,10 @@ loop-place-init c = (c.requires, least_begin c.args.class.now c.requires)
 pub returns-clause-least : goal.returns-clause-least
 returns-clause-least c =
     let keys : List Packed = keys_in c.args.class.now in
-    let most : length keys ≤ c.loop-place.place = omega (arith, c.loop-place-test.false, c.len-place-end.ensures, length-map c.args.class.now (λ (m : Member). m.0)) in
+    let most : length keys ≤ c.loop-place.place = omega (
+      arith,
+      c.loop-place-test.false,
+      c.len-place-end.ensures,
+      length-map c.args.class.now (λ (m : Member). m.0),
+    ) in
     subst (λ (some : List Packed). IsLeastAt some keys c.loop-place.best) (take_all c.loop-place.place keys most) c.loop-place.invariant.1

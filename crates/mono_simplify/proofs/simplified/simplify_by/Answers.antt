@@ -23,7 +23,9 @@ pub loop-moves-preserved : goal.loop-moves-preserved
 loop-moves-preserved c =
     let shown : IsExploredTo c.loop-moves.here c.args.budget (Smaller c.in-Smaller.smaller c.in-Smaller.way) = subst
     (λ (e : Explored). IsExploredTo c.loop-moves.here c.args.budget e) c.in-Smaller.is c.in_ok-smaller.ensures in
-    simpler_more c.args.grid.now c.loop-moves.here c.in-Smaller.smaller c.loop-moves.moves.items c.in-Smaller.way.items c.as_slice.result.now c.extend_from_slice.new.self.items c.in_ok-extend_from_slice-in-Smaller.ensures.items c.as_slice.ensures.value c.loop-moves.invariant shown.0 shown.2 shown.3
+    simpler_more c.args.grid.now c.loop-moves.here c.in-Smaller.smaller c.loop-moves.moves.items c.in-Smaller.way.items c.as_slice.result.now
+    c.extend_from_slice.new.self.items c.in_ok-extend_from_slice-in-Smaller.ensures.items c.as_slice.ensures.value c.loop-moves.invariant shown.0
+    shown.2 shown.3
 
 pub returns-in-Whole : goal.returns-in-Whole
 returns-in-Whole c =

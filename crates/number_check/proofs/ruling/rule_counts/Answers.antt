@@ -5,5 +5,7 @@ use Rattle.number_check.proofs.ruling.rule_counts.Goals as goal
 
 pub returns-clause-apart : goal.returns-clause-apart
 returns-clause-apart c = λ accepted.
-    let holds : NumbersDiffer c.args.block.now c.args.first.now c.args.second.now c.args.one.now c.args.two.now = search rules in
-    numbers_apart c.args.first.now c.args.second.now c.args.block.now c.args.one.now c.args.two.now c.laws_of.ensures.quandle c.laws_of.ensures.cocycle holds
+    let holds : NumbersDiffer c.args.block.now c.args.one.now.grid.now c.args.two.now.grid.now c.args.one.now.counted.now c.args.two.now.counted.now =
+    search rules in
+    numbers_apart c.args.one.now.grid.now c.args.two.now.grid.now c.args.block.now c.args.one.now.counted.now c.args.two.now.counted.now
+    c.laws_of.ensures.quandle c.laws_of.ensures.cocycle holds

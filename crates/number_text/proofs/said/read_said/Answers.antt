@@ -23,5 +23,6 @@ returns-else-starts_third c =
     ap problem_item (sym c.new-lines.ensures) ∙ c.in_ok-problem.ensures in
     let starts : starts_third c.problem_item.new.lines.lines ≡ false =
     sym (ap (λ (t : Text). starts_third t.lines) c.again-ahead.ensures) ∙ sym c.starts_third.ensures ∙ c.if-starts_third.false in
-    subst (λ r. Gives (λ p. p) c.verdict_behind.result r) (sym (earlier (text_of c.args.bytes.now) (c.in_ok-problem.problem, c.problem_item.new.lines) read starts))
+    subst (λ r. Gives (λ p. p) c.verdict_behind.result r) (sym (earlier (text_of c.args.bytes.now) (c.in_ok-problem.problem, c.problem_item.new.lines) read
+    starts))
     c.verdict_behind.ensures

@@ -19,7 +19,8 @@ returns-in-Some-clause-holds g c =
     (subst (λ (o : Option Verdict). IsSeparation p.first p.second (first_separating p.first p.second qs) o) c.in-Some.is c.in_ok-verdict.ensures.verdict)
 
 by_search : (g : _) (c : After-searched g) → IfOk c.searched.result (λ d. IsSearched c.args.problem c.args.quandles.now c.args.workers d.verdict d.kept)
-by_search g c = made c.args.problem c.args.quandles.now c.args.workers _ c.in_ok-pair.pair.first c.in_ok-pair.pair.second c.in_ok-finding.finding c.searched.result
+by_search g c = made c.args.problem c.args.quandles.now c.args.workers _ c.in_ok-pair.pair.first c.in_ok-pair.pair.second c.in_ok-finding.finding
+    c.searched.result
     c.in_ok-verdict.ensures.verdict c.in_default.is c.in_ok-pair.ensures c.requires.bounded.first_fits c.requires.bounded.second_fits
     (subst (λ (p : Problem). IsFinding p c.in_ok-finding.finding) c.problem.ensures.problem c.in_ok-finding.ensures.finding)
     (λ one. absurd (c.if-workers-eq1.false one))

@@ -26,4 +26,5 @@ pub returns-in-Equal : goal.returns-in-Equal
 returns-in-Equal c =
     let of_text : List ℕ → Type 0 = λ t. OnOk c.extend_from_slice.result (c.extend_from_slice.new.self.items ≡ c.args.out.now.items ++ t) in
     subst (λ (k : Cause). of_text (flat_map spaced (cause_tokens k))) (sym c.in-Equal.is)
-    (appended c.extend_from_slice.result c.extend_from_slice.new.self.items c.args.out.now.items (flat_map spaced (cause_tokens Equal)) c.extend_from_slice.ensures.items)
+    (appended c.extend_from_slice.result c.extend_from_slice.new.self.items c.args.out.now.items (flat_map spaced (cause_tokens Equal))
+    c.extend_from_slice.ensures.items)

@@ -10,6 +10,8 @@ pub loop-corner-preserved : goal.loop-corner-preserved
 loop-corner-preserved c =
     record {
       added = adds_taken c.args.grid.now
-          (stabilisation c.args.column c.args.kind) corners c.loop-corner.corner-index _ c.args.list.now.items c.loop-corner.list.items c.try_move.new.list.items (omega arith) (get_or_default corners c.loop-corner.corner-index _ LowLeft (omega arith)) c.loop-corner.invariant.added c.try_move.ensures.added;
+          (stabilisation c.args.column c.args.kind) corners c.loop-corner.corner-index _ c.args.list.now.items c.loop-corner.list.items
+          c.try_move.new.list.items (omega arith) (get_or_default corners c.loop-corner.corner-index _ LowLeft (omega arith))
+          c.loop-corner.invariant.added c.try_move.ensures.added;
       fits = omega (arith, c.loop-corner.invariant.fits, c.try_move.ensures.fits);
     }

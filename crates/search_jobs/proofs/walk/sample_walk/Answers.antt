@@ -14,7 +14,8 @@ pub loop-turn-preserved : goal.loop-turn-preserved
 loop-turn-preserved c =
     let left = words_left TURNS c.loop-turn._turn c.loop-turn.generator c.next_word.result c.next_word.new.self c.loop-turn-test.true c.next_word.ensures in
     let walked = walked_more (seed_words c.args.seed) (generator_words (TURNS - c.loop-turn._turn) c.loop-turn.generator)
-    (generator_words (TURNS - (c.loop-turn._turn + 1)) c.next_word.new.self) c.next_word.result right_trefoil c.loop-turn.here c.moved-here.result c.loop-turn.moves.items c.picked-step.result c.loop-turn.invariant.walked left c.picked-step.ensures c.moved-here.ensures.moved in
+    (generator_words (TURNS - (c.loop-turn._turn + 1)) c.next_word.new.self) c.next_word.result right_trefoil c.loop-turn.here c.moved-here.result
+    c.loop-turn.moves.items c.picked-step.result c.loop-turn.invariant.walked left c.picked-step.ensures c.moved-here.ensures.moved in
     record {
       small = c.moved-here.ensures.small;
       room = omega (arith, c.push_reserved.ensures.capacity, c.loop-turn.invariant.room);

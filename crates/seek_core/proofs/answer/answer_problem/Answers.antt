@@ -1,6 +1,5 @@
-use Rattle.std.proofs.Common.{rules, ◌∙◌, List, ℕ, Option, IfSome, sym, subst}
+use Rattle.std.proofs.Common.{◌∙◌, List, ℕ, Option, IfSome, sym, subst}
 use Rattle.number_text.specs.declared.said.Said.{Said}
-use Rattle.seek_core.specs.declared.answer.Tried.{Tried}
 use Rattle.certificate_check.specs.Decision.{IsFindingOf, IsDecision}
 use Rattle.seek_core.proofs.Separated.{in_vain_of}
 use Rattle.seek_core.proofs.Texts.{tidy_said}
@@ -8,9 +7,8 @@ use Rattle.seek_core.proofs.answer.answer_problem.Goals as goal
 
 pub returns-in-None : goal.returns-in-None
 returns-in-None g c = λ bytes read.
-    let s = c.in_ok-said.field-0 in
-    let tried : Tried = record { columns = (c.columns.result, c.columns-in-None.result); quandles = c.from_vec-in-None.result; blocks = s.blocks } in
-    in_vain_of bytes c.args.problem.now c.args.blocks.now s tried read (search rules) c.from_vec-in-None.ensures (search rules) c.in-None.is c.in_ok-said.ensures.search
+    in_vain_of bytes c.args.problem.now c.args.blocks.now c.in_ok-said.field-0 c.in_vain.result read c.in_vain.ensures.columns
+    c.in_vain.ensures.quandles c.in_vain.ensures.blocks c.in-None.is c.in_ok-said.ensures.search
 
 pub print_said-requires : goal.print_said-requires
 print_said-requires g c =

@@ -33,5 +33,5 @@ returns-clause-search g c =
 pub returns-clause-finding : goal.returns-clause-finding
 returns-clause-finding g c =
     let s : SearchOutcome = record { said = c.in_ok-said.said; quandles = c.in_ok-quandles.quandles; blocks = c.count_fitting.result } in
-    finding_if c.args.problem.now c.args.blocks.now s (subst IsGrid c.grid-first.ensures c.size.ensures.grid) (subst IsGrid c.grid-second.ensures c.size-2.ensures.grid)
-    c.in_ok-quandles.ensures.texts c.as_slice-given.ensures.texts (returns-clause-search g c)
+    finding_if c.args.problem.now c.args.blocks.now s (subst IsGrid c.grid-first.ensures c.size.ensures.grid)
+    (subst IsGrid c.grid-second.ensures c.size-2.ensures.grid) c.in_ok-quandles.ensures.texts c.as_slice-given.ensures.texts (returns-clause-search g c)

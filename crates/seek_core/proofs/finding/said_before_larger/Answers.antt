@@ -13,9 +13,11 @@ returns-then-is_some g c = front_found c.args.pair.now.first c.args.pair.now.sec
     (sym c.is_some.ensures ∙ c.if-is_some.true)
 
 pub returns-in-Some : goal.returns-in-Some
-returns-in-Some g c = later_verdict c.args.pair.now.first c.args.pair.now.second c.args.quandles.now c.split_at.result.0.now c.split_at.result.1.now c.min.result
-    (told_apart c.args.pair.now.first c.args.pair.now.second c.args.pair.now.seeds (blocks_of_size false c.args.blocks.now)) c.in_ok-told.told c.in_ok-verdict.field-0 c.in-Some.verdict
-    c.split_at.ensures.front c.split_at.ensures.back c.in_ok-told.ensures (sym c.is_some.ensures ∙ c.if-is_some.false) c.in_ok-verdict.ensures c.in-Some.is
+returns-in-Some g c = later_verdict c.args.pair.now.first c.args.pair.now.second c.args.quandles.now
+    c.split_at.result.0.now c.split_at.result.1.now c.min.result
+    (told_apart c.args.pair.now.first c.args.pair.now.second c.args.pair.now.seeds (blocks_of_size false c.args.blocks.now)) c.in_ok-told.told
+    c.in_ok-verdict.field-0 c.in-Some.verdict c.split_at.ensures.front c.split_at.ensures.back c.in_ok-told.ensures
+    (sym c.is_some.ensures ∙ c.if-is_some.false) c.in_ok-verdict.ensures c.in-Some.is
 
 pub returns : goal.returns
 returns g c = nothing_later c.args.pair.now.first c.args.pair.now.second c.args.quandles.now c.split_at.result.0.now c.split_at.result.1.now c.min.result

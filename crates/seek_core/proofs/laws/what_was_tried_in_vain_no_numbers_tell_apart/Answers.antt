@@ -14,7 +14,8 @@ use Rattle.seek_core.proofs.laws.what_was_tried_in_vain_no_numbers_tell_apart.Go
 
 pub returns-clause-linking : goal.returns-clause-linking
 returns-clause-linking c = λ bytes tried p vain read.
-    subst (λ (q : ProblemText). (length (components (grid_of q.first)) ≡ length (components (grid_of q.second))) × (linking (grid_of q.first) ≡ linking (grid_of q.second)))
+    subst (λ (q : ProblemText). (length (components (grid_of q.first)) ≡ length (components (grid_of q.second)))
+    × (linking (grid_of q.first) ≡ linking (grid_of q.second)))
     (ok_is vain.problem p (sym vain.read ∙ read)) (linking_agrees (grid_of vain.problem.first) (grid_of vain.problem.second) vain.linking)
 
 pub returns-clause-blocks : goal.returns-clause-blocks

@@ -6,4 +6,5 @@ use Rattle.seek_core.proofs.sizes.tell_by_size.Given as goal
 -- none of the blocks so far tells the diagrams apart
 abbrev pub invariant-loop-block : goal.invariant-loop-block
 invariant-loop-block l =
-    told_by_blocks l.first l.second l.seeds (blocks_of_size l.larger (drop l.block-index l.blocks)) ≡ told_by_blocks l.first l.second l.seeds (blocks_of_size l.larger l.blocks)
+    told_by_blocks l.first l.second l.seeds (blocks_of_size l.larger (drop l.block-index l.blocks))
+    ≡ told_by_blocks l.first l.second l.seeds (blocks_of_size l.larger l.blocks)

@@ -10,7 +10,8 @@ pub returns-in_err-count_item : goal.returns-in_err-count_item
 returns-in_err-count_item c =
     let p = err_from_is_err_and c.from_residual.result c.from_residual.ensures.1 in
     rw (p.1, p.2) (each_fails c.in_err-count_item.field-0.0 c.loop-block.counts.items c.args.blocks.now c.loop-block.block-index _ c.count_of.result
-    c.loop-block.lines (counts_item c.args.blocks.now c.args.lines.now) c.loop-block-test.true (c.count_of.ensures ∙ ap (λ (b : Block). count_of b.cocycle) c.block-item.is) c.in_err-count_item.ensures
+    c.loop-block.lines (counts_item c.args.blocks.now c.args.lines.now) c.loop-block-test.true
+    (c.count_of.ensures ∙ ap (λ (b : Block). count_of b.cocycle) c.block-item.is) c.in_err-count_item.ensures
     c.loop-block.invariant)
 
 pub loop-block-preserved : goal.loop-block-preserved

@@ -8,7 +8,8 @@ loop-first-init c = below_none (λ first. PairsWith c.args.table.now first (leng
 
 pub loop-first-preserved : goal.loop-first-preserved
 loop-first-preserved c =
-    below_more (λ first. PairsWith c.args.table.now first (length c.args.table.now.classes)) c.loop-first.first c.loop-first.invariant (c.same_as.ensures.none c.in_default.is)
+    below_more (λ first. PairsWith c.args.table.now first (length c.args.table.now.classes)) c.loop-first.first c.loop-first.invariant
+    (c.same_as.ensures.none c.in_default.is)
 
 pub returns-clause-none : goal.returns-clause-none
 returns-clause-none c = λ none.

@@ -27,8 +27,13 @@ pub returns-in-Ok : goal.returns-in-Ok
 returns-in-Ok c =
     let kept = c.in_ok-kept.kept in
     let m = c.in_ok-strands.strands in
-    let read : IsRead c.args.line.now m kept =
-    record { rest = c.word.new.line; left = c.number.new.line; name = c.in_ok-word.ensures; strands = c.in_ok-strands.ensures; letters = c.in_ok-kept.ensures } in
+    let read : IsRead c.args.line.now m kept = record {
+      rest = c.word.new.line;
+      left = c.number.new.line;
+      name = c.in_ok-word.ensures;
+      strands = c.in_ok-strands.ensures;
+      letters = c.in_ok-kept.ensures;
+    } in
     let given : word_of m c.as_slice.result.now ≡ word_of m kept.first.items = ap (word_of m) c.as_slice.ensures.value in
     let none : first_word_fault (word_of m kept.first.items) ≡ None = ap first_word_fault (sym (c.in-Ok.ensures.braid.1 ∙ given)) ∙ c.in-Ok.ensures.braid.0 in
     braid_good c.args.line.now m kept read (sym c.exceeds.ensures ∙ c.if-exceeds.false) none ∙ ap (λ (b : Word). Ok b) (sym (c.in-Ok.ensures.braid.1 ∙ given))
@@ -37,8 +42,13 @@ pub returns-in-Err : goal.returns-in-Err
 returns-in-Err c =
     let kept = c.in_ok-kept.kept in
     let m = c.in_ok-strands.strands in
-    let read : IsRead c.args.line.now m kept =
-    record { rest = c.word.new.line; left = c.number.new.line; name = c.in_ok-word.ensures; strands = c.in_ok-strands.ensures; letters = c.in_ok-kept.ensures } in
+    let read : IsRead c.args.line.now m kept = record {
+      rest = c.word.new.line;
+      left = c.number.new.line;
+      name = c.in_ok-word.ensures;
+      strands = c.in_ok-strands.ensures;
+      letters = c.in_ok-kept.ensures;
+    } in
     let why = subst
     (λ (ls : List ℤ). (first_word_fault (word_of m ls) ≡ Some c.in-Err.fault) ⊎ ((first_word_fault (word_of m ls) ≡ None) × (c.in-Err.fault ≡ OutOfMemory)))
     c.as_slice.ensures.value c.in-Err.ensures.fault in

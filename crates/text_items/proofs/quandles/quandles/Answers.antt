@@ -18,7 +18,9 @@ returns-in_err-quandle_item c =
 
 pub loop-preserved : goal.loop-preserved
 loop-preserved c =
-    rw c.in_ok-push.ensures.items (quandle_more c.loop.listed.items MAX_QUANDLES c.loop.counter c.loop.lines c.in_ok-quandle_item.field-0 c.quandle_item.new.lines (quandles MAX_QUANDLES c.args.lines.now) c.loop-test.true (sym c.begins.ensures ∙ c.if-not-begins.false) c.in_ok-quandle_item.ensures c.loop.invariant)
+    rw c.in_ok-push.ensures.items (quandle_more c.loop.listed.items MAX_QUANDLES c.loop.counter c.loop.lines
+    c.in_ok-quandle_item.field-0 c.quandle_item.new.lines (quandles MAX_QUANDLES c.args.lines.now) c.loop-test.true
+    (sym c.begins.ensures ∙ c.if-not-begins.false) c.in_ok-quandle_item.ensures c.loop.invariant)
 
 pub returns-then-begins : goal.returns-then-begins
 returns-then-begins c =

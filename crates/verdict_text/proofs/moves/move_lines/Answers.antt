@@ -12,7 +12,8 @@ returns-in_err-next_move c =
 
 pub loop-preserved : goal.loop-preserved
 loop-preserved c =
-    rw c.in_ok-push.ensures.items (turn_more next_move c.loop.moves.items c.args.count c.loop.counter c.loop.lines c.in_ok-next_move.field-0 c.next_move.new.lines (in_turn next_move c.args.count c.args.lines.now) c.loop-test.true c.in_ok-next_move.ensures c.loop.invariant)
+    rw c.in_ok-push.ensures.items (turn_more next_move c.loop.moves.items c.args.count c.loop.counter c.loop.lines c.in_ok-next_move.field-0
+    c.next_move.new.lines (in_turn next_move c.args.count c.args.lines.now) c.loop-test.true c.in_ok-next_move.ensures c.loop.invariant)
 
 pub returns : goal.returns
 returns c = turns_done next_move c.loop.moves.items c.args.count c.loop.counter c.loop.lines

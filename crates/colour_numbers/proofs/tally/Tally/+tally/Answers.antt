@@ -1,17 +1,16 @@
-use Rattle.std.proofs.Common.{◌<◌, ◌==◌, ◌*◌, ◌^◌, ◌∙◌, ℕ, List, length, set, refl, sym, ap, subst, arith}
-use Rattle.std.specs.Prelude.{slice_index}
+use Rattle.std.proofs.Common.{◌≡◌, ◌<◌, ◌*◌, ◌^◌, [], ◌∷◌, ◌∙◌, Bool, false, ℕ, List, length, set, sym, ap, subst, arith, rules}
+use Rattle.std.specs.Prelude.{if◌then◌else◌}
 use Rattle.std.specs.List.{flat_map}
 use Rattle.grid_core.specs.declared.grid.TheConstants.{MAX_SIZE}
-use Rattle.quandle_core.specs.Quandle.{Table, IsQuandle}
+use Rattle.quandle_core.specs.Quandle.{Table}
 use Rattle.colour_rows.specs.Colouring.{AreColours}
-use Rattle.colour_rows.specs.Equation.{walk_of}
-use Rattle.colour_list.specs.Level.{spread, with_left, with_right}
+use Rattle.colour_list.specs.Level.{spread}
 use Rattle.colour_seeds.specs.declared.progress.Step.{Step}
-use Rattle.colour_seeds.specs.declared.progress.Step.TheVariants.{Seed, Rightward, Leftward, Test}
-use Rattle.colour_seeds.specs.Plan.{seeds_in}
-use Rattle.colour_seeds.specs.Leaves.{leaves}
+use Rattle.colour_seeds.specs.declared.progress.Step.TheVariants.{Seed}
+use Rattle.colour_seeds.specs.Plan.{is_seed, seeds_in}
+use Rattle.colour_seeds.specs.Leaves.{lists_after_step, leaves}
 use Rattle.colour_numbers.specs.Tallies.{tallied}
-use Rattle.colour_seeds.proofs.Settlings.{behind, first_is, left_colours, no_seed_power, right_colours, seed_colours, seed_power, spread_more, test_fails_at}
+use Rattle.colour_seeds.proofs.Settlings.{behind, first_is, no_seed_power, seed_colours, seed_power, spread_more}
 use Rattle.colour_numbers.proofs.Tallying.{room_each, tallied_long, tallied_more, tallied_none}
 use Rattle.colour_numbers.proofs.tally.Tally.+tally.Goals as goal
 
@@ -28,7 +27,8 @@ tally_each-tally_from-requires g t c =
     let often = g.W.Weigher.often w in
     let d = c.args.self.now.grid.now in
     let level = flat_map (leaves q d c.args.steps.now) (spread c.loop-colour.colour c.args.column c.args.colours.now) in
-    let below : c.loop-colour.colour < q.order = omega (arith, c.order-colour-end.ensures.order, ap (λ (t : Table). t.order) c.quandle-quandle.ensures) in λ κs lives. (
+    let below : c.loop-colour.colour < q.order = omega (arith, c.order-colour-end.ensures.order, ap (λ (t : Table). t.order) c.quandle-quandle.ensures) in
+    λ κs lives. (
       omega arith,
       (
         lives,
@@ -40,8 +40,8 @@ tally_each-tally_from-requires g t c =
               seed_colours q.order c.args.column c.loop-colour.colour c.args.colours.now below c.requires.colours,
               (
                 ap length c.loop-colour.invariant ∙ tallied_long m often c.args.counts.now level,
-                λ v lt. room_each m often (g.W.Weigher.choices w) (g.met.W.Weigher.few w) q d c.args.steps.now c.args.counts.now c.loop-colour.counts c.args.column
-                    c.loop-colour.colour v c.args.colours.now lt below c.loop-colour.invariant (c.requires.room v lt),
+                λ v lt. room_each m often (g.W.Weigher.choices w) (g.met.W.Weigher.few w) q d c.args.steps.now c.args.counts.now c.loop-colour.counts
+                    c.args.column c.loop-colour.colour v c.args.colours.now lt below c.loop-colour.invariant (c.requires.room v lt),
               ),
             ),
           ),
@@ -67,87 +67,44 @@ pub tally_from-tally_each-requires : goal.tally_from-tally_each-requires
 tally_from-tally_each-requires g t c =
     let w = c.args.self.now.weigher.now in
     let q = g.W.Weigher.quandle w in
-    let is = first_is c.args.steps.now c.in-Some.rest.now c.in-Some.step.now (Seed c.in-Seed.column) c.in-Some.ensures.cases c.in-Seed.is in
-    let rest = behind c.args.self.now.grid.now c.args.steps.now c.in-Some.rest.now (Seed c.in-Seed.column) is c.requires.inside in
+    let column = c.in-Some-seed.column in
+    let is = first_is c.args.steps.now c.in-Some.rest.now c.in-Some.step.now (Seed column) c.in-Some.ensures.cases c.in-Some-seed.ensures.some in
+    let rest = behind c.args.self.now.grid.now c.args.steps.now c.in-Some.rest.now (Seed column) is c.requires.inside in
     let shorter : length c.in-Some.rest.now < length c.args.steps.now = rest.shorter in
-    let power = ap (λ (xs : List Step). q.order ^ seeds_in xs) is ∙ seed_power q.order c.in-Seed.column c.in-Some.rest.now in
+    let power = ap (λ (xs : List Step). q.order ^ seeds_in xs) is ∙ seed_power q.order column c.in-Some.rest.now in
     let room = ap (λ (n : ℕ). n * g.W.Weigher.choices w) power in λ κs lives. (
       omega arith,
       (lives, (c.requires.rows, (rest.inside, (c.requires.colours, (rest.here, (c.requires.long, λ v lt. omega (arith, c.requires.room v lt, room))))))),
     )
 
-pub tally_from-row_at-line-requires-clause-row : goal.tally_from-row_at-line-requires-clause-row
-tally_from-row_at-line-requires-clause-row g t c =
-    let is = first_is c.args.steps.now c.in-Some.rest.now c.in-Some.step.now (Rightward c.in-Rightward.row) c.in-Some.ensures.cases c.in-Rightward.is in
-    (behind c.args.self.now.grid.now c.args.steps.now c.in-Some.rest.now (Rightward c.in-Rightward.row) is c.requires.inside).here
-
 pub tally_from-tally_from-requires : goal.tally_from-tally_from-requires
 tally_from-tally_from-requires g t c =
     let w = c.args.self.now.weigher.now in
     let q = g.W.Weigher.quandle w in
-    let d = c.args.self.now.grid.now in
-    let f = c.args.colours.now in
-    let is = first_is c.args.steps.now c.in-Some.rest.now c.in-Some.step.now (Rightward c.in-Rightward.row) c.in-Some.ensures.cases c.in-Rightward.is in
-    let rest = behind c.args.self.now.grid.now c.args.steps.now c.in-Some.rest.now (Rightward c.in-Rightward.row) is c.requires.inside in
+    let is : c.args.steps.now ≡ c.in-Some.step.now ∷ c.in-Some.rest.now = c.in-Some.ensures.cases.0 in
+    let rest = behind c.args.self.now.grid.now c.args.steps.now c.in-Some.rest.now c.in-Some.step.now is c.requires.inside in
     let shorter : length c.in-Some.rest.now < length c.args.steps.now = rest.shorter in
-    let power = no_seed_power q.order c.args.steps.now c.in-Some.rest.now (Rightward c.in-Rightward.row) is refl in
+    let none : is_seed c.in-Some.step.now ≡ false = search rules in
+    let power = no_seed_power q.order c.args.steps.now c.in-Some.rest.now c.in-Some.step.now is none in
     let room = ap (λ (n : ℕ). n * g.W.Weigher.choices w) power in
-    let line = c.row_at-line.result.now in
-    let colours : AreColours MAX_SIZE q.order c.settle_right.new.colours = right_colours q d (subst IsQuandle c.quandle-quandle.ensures c.order-order.ensures.quandle)
-    c.size-size.ensures.grid c.in-Rightward.row rest.here line c.row_at-line.ensures.equation f c.settle_right.new.colours c.requires.colours
-    (c.settle_right.ensures ∙ ap (λ (t : Table). with_right t line f) c.quandle-quandle.ensures) in
+    let colours : AreColours MAX_SIZE q.order c.passes.new.colours =
+    subst (λ (t : Table). AreColours MAX_SIZE t.order c.passes.new.colours) c.quandle-quandle.ensures c.passes.ensures.colours in
     λ κs lives. (omega arith, (lives, (c.requires.rows, (rest.inside, (colours, (c.requires.long, λ v lt. omega (arith, c.requires.room v lt, room)))))))
 
-pub tally_from-row_at-line-requires-in-Leftward-clause-row : goal.tally_from-row_at-line-requires-in-Leftward-clause-row
-tally_from-row_at-line-requires-in-Leftward-clause-row g t c =
-    let is = first_is c.args.steps.now c.in-Some.rest.now c.in-Some.step.now (Leftward c.in-Leftward.row) c.in-Some.ensures.cases c.in-Leftward.is in
-    (behind c.args.self.now.grid.now c.args.steps.now c.in-Some.rest.now (Leftward c.in-Leftward.row) is c.requires.inside).here
-
-pub tally_from-tally_from-requires-in-Leftward : goal.tally_from-tally_from-requires-in-Leftward
-tally_from-tally_from-requires-in-Leftward g t c =
+pub tally_from-returns-else-passes : goal.tally_from-returns-else-passes
+tally_from-returns-else-passes g t c =
     let w = c.args.self.now.weigher.now in
-    let q = g.W.Weigher.quandle w in
-    let d = c.args.self.now.grid.now in
-    let f = c.args.colours.now in
-    let is = first_is c.args.steps.now c.in-Some.rest.now c.in-Some.step.now (Leftward c.in-Leftward.row) c.in-Some.ensures.cases c.in-Leftward.is in
-    let rest = behind c.args.self.now.grid.now c.args.steps.now c.in-Some.rest.now (Leftward c.in-Leftward.row) is c.requires.inside in
-    let shorter : length c.in-Some.rest.now < length c.args.steps.now = rest.shorter in
-    let power = no_seed_power q.order c.args.steps.now c.in-Some.rest.now (Leftward c.in-Leftward.row) is refl in
-    let room = ap (λ (n : ℕ). n * g.W.Weigher.choices w) power in
-    let line = c.row_at-line-in-Leftward.result.now in
-    let colours : AreColours MAX_SIZE q.order c.settle_left.new.colours = left_colours q d (subst IsQuandle c.quandle-quandle.ensures c.order-order.ensures.quandle)
-    c.size-size.ensures.grid c.in-Leftward.row rest.here line c.row_at-line-in-Leftward.ensures.equation f c.settle_left.new.colours c.requires.colours
-    (c.settle_left.ensures ∙ ap (λ (t : Table). with_left t line f) c.quandle-quandle.ensures) in
-    λ κs lives. (omega arith, (lives, (c.requires.rows, (rest.inside, (colours, (c.requires.long, λ v lt. omega (arith, c.requires.room v lt, room)))))))
-
-pub tally_from-row_at-line-requires-in-Test-clause-row : goal.tally_from-row_at-line-requires-in-Test-clause-row
-tally_from-row_at-line-requires-in-Test-clause-row g t c =
-    let is = first_is c.args.steps.now c.in-Some.rest.now c.in-Some.step.now (Test c.in-Test.row) c.in-Some.ensures.cases c.in-Test.is in
-    (behind c.args.self.now.grid.now c.args.steps.now c.in-Some.rest.now (Test c.in-Test.row) is c.requires.inside).here
-
-pub tally_from-tally_from-requires-then-closes : goal.tally_from-tally_from-requires-then-closes
-tally_from-tally_from-requires-then-closes g t c =
-    let w = c.args.self.now.weigher.now in
-    let q = g.W.Weigher.quandle w in
-    let is = first_is c.args.steps.now c.in-Some.rest.now c.in-Some.step.now (Test c.in-Test.row) c.in-Some.ensures.cases c.in-Test.is in
-    let rest = behind c.args.self.now.grid.now c.args.steps.now c.in-Some.rest.now (Test c.in-Test.row) is c.requires.inside in
-    let shorter : length c.in-Some.rest.now < length c.args.steps.now = rest.shorter in
-    let power = no_seed_power q.order c.args.steps.now c.in-Some.rest.now (Test c.in-Test.row) is refl in
-    let room = ap (λ (n : ℕ). n * g.W.Weigher.choices w) power in
-    λ κs lives. (omega arith, (lives, (c.requires.rows, (rest.inside, (c.requires.colours, (c.requires.long, λ v lt. omega (arith, c.requires.room v lt, room)))))))
-
-pub tally_from-returns-else-closes : goal.tally_from-returns-else-closes
-tally_from-returns-else-closes g t c =
-    let w = c.args.self.now.weigher.now in
-    let q = g.W.Weigher.quandle w in
     let m = g.W.Weigher.modulus w in
     let often = g.W.Weigher.often w in
+    let q = g.W.Weigher.quandle w in
     let d = c.args.self.now.grid.now in
     let f = c.args.colours.now in
-    let is = first_is c.args.steps.now c.in-Some.rest.now c.in-Some.step.now (Test c.in-Test.row) c.in-Some.ensures.cases c.in-Test.is in
-    let line = c.row_at-line-in-Test.result.now in
-    let apart = ap (λ (t : Table). walk_of t line f == slice_index f line.right_end) (sym c.quandle-quandle.ensures) ∙ (sym c.closes.ensures ∙ c.if-closes.false) in
+    let s = c.in-Some.step.now in
+    let rest = c.in-Some.rest.now in
+    let none : is_seed s ≡ false = search rules in
+    let made : lists_after_step q d s f ≡ [] =
+    subst (λ (t : Table). lists_after_step t d s f ≡ []) c.quandle-quandle.ensures
+    (c.passes.ensures.made none ∙ ap (λ (b : Bool). if b then c.passes.new.colours ∷ [] else []) c.if-passes.false) in
     tallied_none m often c.args.counts.now c.requires.long
     ∙ ap (tallied m often c.args.counts.now)
-    (sym (ap (λ (xs : List Step). leaves q d xs f) is
-    ∙ test_fails_at q d c.in-Test.row c.in-Some.rest.now f line c.row_at-line-in-Test.ensures.equation apart))
+    (sym (ap (λ (xs : List Step). leaves q d xs f) c.in-Some.ensures.cases.0 ∙ ap (flat_map (leaves q d rest)) made))

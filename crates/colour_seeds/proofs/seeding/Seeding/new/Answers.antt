@@ -12,11 +12,13 @@ returns-then-not-way-column-clause-fault c =
     let d = c.args.grid.now in
     let g = c.in_ok-way.way.progress in
     let x = c.loop-column.column in
-    let sound : IsSound c.args.grid.now c.in_ok-way.way.progress = sound_leads d nothing g c.in_ok-way.way.steps.items c.size-size.ensures.grid (sound_nothing d) c.in_ok-way.ensures.leads in
+    let sound : IsSound c.args.grid.now c.in_ok-way.way.progress = sound_leads d nothing g c.in_ok-way.way.steps.items c.size-size.ensures.grid
+    (sound_nothing d) c.in_ok-way.ensures.leads in
     let below : c.loop-column.column < size c.args.grid.now = omega (arith, c.size-column-end.ensures.size) in (
       All-from_get_or (λ s. s < size c.args.grid.now) c.args.seeds.now 0 (λ k lt. c.loop-seed.invariant k (omega arith)),
       below,
-      λ settled. both_ways (is_known g x) c.if-not-way-column.true (settled (is_known g) (known_closed d g sound c.in_ok-way.ensures.stuck) c.in_ok-way.ensures.taken),
+      λ settled. both_ways (is_known g x) c.if-not-way-column.true (settled (is_known g) (known_closed d g sound c.in_ok-way.ensures.stuck)
+          c.in_ok-way.ensures.taken),
       λ b lt. c.in_ok-way.ensures.settled b (c.loop-column.invariant b lt),
     )
 

@@ -14,7 +14,8 @@ loop-place-preserved c =
     let moves = c.args.steps.now in
     let moved = c.in-Ok.ensures.moved in
     let so_far = c.loop-place.invariant.0 in
-    let longer = carries_more t moves at (ShiftColumns 0) start.grid here.grid c.in-Ok.next start.colours.items here.colours.items (omega arith) so_far moved in (
+    let longer = carries_more t moves at (ShiftColumns 0) start.grid here.grid c.in-Ok.next start.colours.items here.colours.items (omega arith)
+    so_far moved in (
       subst (λ (last : List ℕ). Carries t start.grid start.colours.items (take (at + 1) moves) c.in-Ok.next last) (sym c.carry.ensures.carried) longer,
       c.carry.ensures.colouring c.in-Ok.next moved,
     )

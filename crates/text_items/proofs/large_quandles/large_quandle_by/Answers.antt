@@ -1,7 +1,7 @@
 use Rattle.quandle_core.specs.Quandle.{Table}
 use Rattle.quandle_core.specs.declared.operations.TheConstants.{MAX_LARGE_ORDER}
 use Rattle.text_items.proofs.TableLaws.{laws_hold, laws_fail}
-use Rattle.text_items.proofs.large_quandles.quandle_by.Goals as goal
+use Rattle.text_items.proofs.large_quandles.large_quandle_by.Goals as goal
 
 pub returns-in-Ok-clause-some : goal.returns-in-Ok-clause-some
 returns-in-Ok-clause-some c =

@@ -2,12 +2,12 @@ use Rattle.std.proofs.Common.{◌≡◌, ◌^◌, ◌-◌, ◌∙◌, ℕ, min, 
 use Rattle.std.specs.Prelude.{nat_le}
 use Rattle.colour_seeds.specs.declared.counting.TheConstants.{MAX_CANDIDATES}
 use Rattle.colour_seeds.proofs.Caps.{capped}
-use Rattle.number_check.proofs.counts.are_few.Goals as goal
+use Rattle.colour_seeds.proofs.counting.few_ways.Goals as goal
 
-pub returns-clause-few : goal.returns-clause-few
-returns-clause-few c =
+pub returns : goal.returns
+returns c =
     let order : c.from.result ≡ c.args.quandle.now.order = c.from.ensures ∙ c.order.ensures.order in
     capped c.from.result c.args.choices c.saturating_pow.result MAX_CANDIDATES (omega (arith, order, c.order-order.ensures.quandle.least))
     (omega arith) (omega arith)
-    (c.saturating_pow.ensures ∙ ap (λ (k : ℕ). min (c.from.result ^ k) (2 ^ 32 - 1)) c.min-count.ensures)
+    (c.saturating_pow.ensures ∙ ap (λ (k : ℕ). min (c.from.result ^ k) (2 ^ 32 - 1)) c.min-choices.ensures)
     ∙ ap (λ (q : ℕ). nat_le (q ^ c.args.choices) MAX_CANDIDATES) order
