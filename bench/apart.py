@@ -1,20 +1,20 @@
 #!/usr/bin/env python3
-"""How many knots of a table are told from each other, from their mirror images and from their reverses, by rows of numbers.
+"""How many knots of a table are distinguished from each other, from their mirror images and from their reverses, by rows of numbers.
 
-    python3 bench/apart.py                   by the rows that stand beside the table to 12 crossings, without a program
-    python3 bench/apart.py --list FILE       then what is left by this list of quandles; it may stand several times
+    python3 bench/apart.py                   by the rows that are beside the table to 12 crossings, without a program
+    python3 bench/apart.py --list FILE       then what is left by this list of quandles; it may be given several times
     python3 bench/apart.py --book FILE       keeps what is found there; called again, it goes on
     python3 bench/apart.py --table TABLE     another table
     python3 bench/apart.py --only pairs      asks further lists of pairs of knots alone, or of `mirrors` or `reverses`
     python3 bench/apart.py --each            also names what is left at the end, a line each
-    python3 bench/apart.py --order FILE      the blocks of a list in the order of what they tell a millisecond, and no more
+    python3 bench/apart.py --order FILE      the blocks of a list in the order of how much they distinguish in a millisecond, and no more
     python3 bench/apart.py --processes 2     so many counts at once
 
-Two knots are told apart where rows differ for each turn of the second: as it is, mirrored, reversed, or both. The rows of a knot and of its
-mirror image are compared, both at once. An entry that is too wide tells nothing. What the table's symmetries join is the same knot, and isn't
+Two knots are distinguished where rows differ for each turn of the second: as it is, mirrored, reversed, or both. The rows of a knot and of its
+mirror image are compared, both at once. An entry that is too wide says nothing. What the table's symmetries join is the same knot, and isn't
 asked of further lists. Their rows are counted by `knot numbers`, the program of KNOT, or that which is built.
 
-By --order that block comes next which tells most a millisecond of the processor of what those before it leave: of pairs of knots, knots and
+By --order that block comes next which distinguishes most a millisecond of the processor of what those before it leave: of pairs of knots, knots and
 their mirror images, and knots and their reverses. The cost is the mean of `knot numbers` over twelve knots, less that for the unknot, which is
 nearly all for reading the list. An entry that is too wide counts here as one of its own. Blocks of more than 32 colours come last, as `seek`
 tries them. They are counted only for some two hundred things that the others leave, and not for symmetries of which the table knows nothing.
@@ -37,7 +37,7 @@ from knot_workbench.knot_rows import blocks_of, may_be_one, opposite, row_of, te
 from knot_workbench.knot_tables import BOTH, MIRRORED, REVERSED, SAME, TURNS, UNKNOT, KnotTable, default_table, text_in
 from measure import PROGRAM, processor_seconds
 
-# Two knots that aren't told apart, the second after a turn; or a knot and itself after one.
+# Two knots that aren't distinguished, the second after a turn; or a knot and itself after one.
 Left = collections.namedtuple("Left", "one other turn")
 
 
@@ -55,7 +55,7 @@ class Rows:
         return (opposite(row, self.blocks), opposite(mirrored, self.blocks)) if turn.is_reversed else (row, mirrored)
 
     def may_be(self, left):
-        """Whether no number tells what is left."""
+        """Whether no number distinguishes what is left."""
         return all(map(may_be_one, self.turned(left.one, SAME), self.turned(left.other, left.turn)))
 
     def key(self, name, turn):
@@ -63,7 +63,7 @@ class Rows:
         return "|".join(text_of(row, self.blocks) for row in self.turned(name, turn))
 
     def is_wide(self, name):
-        """Whether some entry tells nothing."""
+        """Whether some entry says nothing."""
         return any(None in row for row in self.rows[name])
 
 
@@ -94,7 +94,7 @@ def left_by_list(known, left, path, each, book):
 
 
 def classes_of(names, left):
-    """How many classes knots fall into that aren't told apart, and how many of these have one knot."""
+    """How many classes knots fall into that aren't distinguished, and how many of these have one knot."""
     head = {name: name for name in names}
 
     def top(name):
@@ -140,8 +140,8 @@ def report(said, names, left, joined, clock):
     """A line on what is left, and on what is joined."""
     count, alone = classes_of(names, left)
     mirrored, reverse = own(joined, MIRRORED, BOTH), own(joined, REVERSED)
-    print(f"{said}: {pairs_in(left)} of {len(names) * (len(names) - 1) // 2} pairs aren't told apart, {count} classes, {alone} of one knot; neither joined "
-          f"to nor told from the mirror image {len(own(left, MIRRORED, BOTH) - mirrored)}, the reverse {len(own(left, REVERSED))} of {len(names)}; joined to "
+    print(f"{said}: {pairs_in(left)} of {len(names) * (len(names) - 1) // 2} pairs aren't distinguished, {count} classes, {alone} of one knot; neither joined "
+          f"to nor distinguished from the mirror image {len(own(left, MIRRORED, BOTH) - mirrored)}, the reverse {len(own(left, REVERSED))} of {len(names)}; joined to "
           f"it {len(mirrored)} and {len(reverse)}; {clock}", flush=True)
 
 
@@ -180,7 +180,7 @@ def named_blocks(listed):
 
 
 def rows_of_blocks(known, names, some, each, book):
-    """The rows of knots and of their mirror images by some blocks: those of the table's list as they stand beside it, and others counted."""
+    """The rows of knots and of their mirror images by some blocks: those of the table's list as they are beside it, and others counted."""
     standing = {block.text: place for place, block in enumerate(plan_blocks(known.listed)[1])}
     others = "".join(one.text for one in some if one.text not in standing)
     further = rows_by(known, names, others, each, book) if others else dict.fromkeys(names, ((), ()))
@@ -221,7 +221,7 @@ def marks_of(rows):
 
 
 def untold_by(marks, chosen):
-    """How many pairs of knots, of a knot and its mirror image, and of a knot and its reverse some blocks don't tell apart."""
+    """How many pairs of knots, of a knot and its mirror image, and of a knot and its reverse some blocks don't distinguish."""
     classes, mirrored, reverse = collections.Counter(), 0, 0
     for turns in marks.values():
         same, other, back, both = (tuple(turn[block] for block in chosen) for turn in turns)
@@ -232,7 +232,7 @@ def untold_by(marks, chosen):
 
 
 def say_order_of(known, names, some, untold):
-    """Names blocks, those first that tell most a millisecond. `untold` says how many pairs, mirror images and reverses places of blocks leave."""
+    """Names blocks, those first that distinguish most a millisecond. `untold` says how many pairs, mirror images and reverses places of blocks leave."""
     costs, chosen, left = [cost_of(known, names, one.text) for one in some], [], untold([])
     while len(chosen) < len(some):
         after = {place: untold([*chosen, place]) for place in range(len(some)) if place not in chosen}
@@ -267,7 +267,7 @@ def say_order(known, listed, each, book):
 
 
 def known_rows(known, names):
-    """The rows that stand beside the table, of knots and of their mirror images."""
+    """The rows that are beside the table, of knots and of their mirror images."""
     return {name: (known.row(name), known.row(name, MIRRORED)) for name in names}
 
 

@@ -9,7 +9,7 @@
     python3 bench/identify.py --most 10         knots of at most so many crossings
     python3 bench/identify.py --folder FOLDER   keeps tables, answers and certificates there; called again, it goes on
     python3 bench/identify.py --seed 2          other knots and other disguises
-    python3 bench/identify.py -- --processes 2  words behind -- go to identify.py
+    python3 bench/identify.py -- --processes 2  words after -- go to identify.py
 
 A disguised diagram is, by turns, the end of a walk of 3,000 moves in up to eight columns more than the table's grid; a braid word of it some
 relations and Markov moves away, where one fits; and its planar diagram code, with other numbers in another order. Each is mirrored or run

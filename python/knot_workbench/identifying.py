@@ -1,8 +1,8 @@
 """Which knot of a table a diagram is, with a certificate.
 
 The diagram is made smaller, and its numbers of colourings name a few candidates in the table. Walks of `seek` join the diagram to the diagram
-of one, mirrored or reversed as need be. Short walks to all candidates come before longer ones, and those of other Alexander polynomials have
-none. Nothing is believed of what is found before `knot check` accepted the certificate.
+of one, mirrored or reversed as need be. Short walks to all candidates come before longer ones, and no walk is tried to a candidate with
+another Alexander polynomial. Nothing is believed of what is found before `knot check` has accepted the certificate.
 """
 import threading
 from typing import Any, Dict, Iterator, List, NamedTuple, Optional, Sequence, Tuple, Union
@@ -30,7 +30,7 @@ class Identified(NamedTuple):
     `components`   how many it has; of a link of several no more is known
     `parts`        the knot of the table, or the parts of a sum, each a name and a turn; () for the unknot; None where it is none or open
     `certificate`  moves that lead to the table's diagram, accepted by the checker; None where there are no parts
-    `candidates`   where no walk joined the diagram to one: those that no number tells it from. Without any, its numbers differ from those of
+    `candidates`   where no walk joined the diagram to one: those that no number distinguishes it from. Without any, its numbers differ from those of
                    the unknot, of each knot of the table, and of each sum of them of at most twelve crossings
     """
 
@@ -122,7 +122,7 @@ def rounds_of(likely: List[Parts], first: Optional[Parts], rounds: Sequence[Tupl
 
 def by_likelihood(grid: Grid, known: KnotTable, candidates: List[Parts], first: Optional[Parts]) -> Tuple[List[Parts], List[Parts]]:
     """Candidates for a grid in the order in which they are tried, and those that have another Alexander polynomial. `first` is in front, and
-    behind it are those whose diagrams in the table have nearly as many columns as the grid."""
+    after it are those whose diagrams in the table have nearly as many columns as the grid."""
     # The turns of one knot have one polynomial.
     is_one = len({tuple(name for name, _ in parts) for parts in candidates}) < 2
     due = None if is_one else alexander_square(grid)

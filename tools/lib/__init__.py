@@ -15,7 +15,7 @@ tabulate_call   the call of tabulate.py; on table_given (table_shadows, table_ch
                 table_keys, table_linear, table_book, table_joins, table_tries), table_telling (table_standing, table_apart, table_certificate),
                 table_written and table_page
 
-Diagrams, quandles, moves, codes and tables stand in python/knot_workbench, which is found from here on.
+Diagrams, quandles, moves, codes and tables are in python/knot_workbench, which is found from here on.
 """
 import os
 import sys

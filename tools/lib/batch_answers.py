@@ -10,7 +10,7 @@ FINAL = (ANSWERED, REJECTED)
 REFUSED = (MALFORMED, LIMIT)
 
 # One try of a problem. says: the first line that the program wrote, or a verdict in short. told: what it said on standard error.
-# added_too_much: a limit was passed behind the last line of the problem, by what the stage had added.
+# added_too_much: a limit was passed after the last line of the problem, by what the stage had added.
 Tried = collections.namedtuple("Tried", "stage text key status seconds says told added_too_much", defaults=("", False))
 # What is kept of a problem: every try in order, and what the last one wrote.
 Kept = collections.namedtuple("Kept", "tried body")
@@ -50,7 +50,7 @@ def read_answer(path, problem, job):
 
 
 def says(body):
-    """An answer in short, as the module tells it."""
+    """An answer in short, as the module writes it."""
     return Answer("", ANSWERED, body.decode("utf-8", "replace")).short
 
 
@@ -78,7 +78,7 @@ def in_one_line(told):
 def adds_too_much(problem, stage, status, body):
     """Whether a limit was passed by what the stage has added, and not by the problem.
 
-    Where no line is told, as by seek, or where all bytes are too many, the stages that add nothing decide whether the problem is refused.
+    Where no line is reported, as by seek, or where all bytes are too many, the stages that add nothing decide whether the problem is refused.
     """
     if status != LIMIT or not stage.added:
         return False
@@ -94,7 +94,7 @@ def is_final(tried, stages):
 
 
 def deciding(answer, stages):
-    """The try that the summary tells: the one that settles the problem, else the last search.
+    """The try that the summary shows: the one that settles the problem, else the last search.
 
     That is the last try of a listed stage that adds nothing, since stages that add quandles may search next to nothing.
     """

@@ -1,4 +1,4 @@
-"""The call of a batch: its words, what stands for those that aren't given, and what is done in which order."""
+"""The call of a batch: its words, the defaults, and what is done in which order."""
 import argparse
 import os
 import re
@@ -87,7 +87,7 @@ def parser():
 
 
 def settled(options):
-    """The options with what stands for those that weren't given."""
+    """The options with the defaults of those that weren't given."""
     if options.job is None:
         is_seek = options.program is not None and os.path.basename(options.program) == "seek"
         options.job = "seek" if is_seek else "decide"

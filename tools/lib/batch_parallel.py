@@ -196,7 +196,7 @@ class Spread:
 
     def run_once(self, names):
         """Runs the problems once: those that were lost with a host. GNU parallel writes a log of this call alone, since another call may be at
-        work on the same folder; at the end it is put behind the log of the folder."""
+        work on the same folder; at the end it is put after the log of the folder."""
         with tempfile.TemporaryFile() as source, tempfile.TemporaryDirectory() as folder:
             source.write(b"".join(os.fsencode(self.batch.problem_path(name)) + b"\0" for name in names))
             source.seek(0)
@@ -220,7 +220,7 @@ class Spread:
         return [names[place] for place in lost]
 
     def keep_log(self, path):
-        """Puts what a log says behind the log of the folder."""
+        """Puts what a log says after the log of the folder."""
         if os.path.exists(path):
             with open(path, "rb") as file, open(self.log_path, "ab", 0) as out:
                 out.write(file.read())

@@ -12,10 +12,10 @@ from knot_workbench.answers import ANSWERED, MALFORMED, NO_JOB, REJECTED
 from lib.batch_answers import in_one_line, kept_of
 from lib.batch_stages import BatchError, call_words, listed_file
 
-WHY_NONE = {2: "it refuses the words", 5: "reading failed", 6: "writing failed", 7: "there was no memory", 10: "it was given no words",
+WHY_NONE = {2: "it refuses the words", 5: "reading failed", 6: "writing failed", 7: "memory ran out", 10: "it was given no words",
             127: "it could not be built"}
 
-# A problem that each program answers at once, with nothing on standard error: two unknots, and for check a verdict behind them.
+# A problem that each program answers at once, with nothing on standard error: two unknots, and for check a verdict after them.
 UNKNOTS = b"x 0 1\no 1 0\nx 0 1\no 1 0\n"
 EQUAL = b"equal 0\n"
 
@@ -240,7 +240,7 @@ class Programs:
             raise BatchError(f"{error.filename}: {error.strerror}") from None
 
     def probe(self, call, what):
-        """Tries a call on no input, which each job refuses, so that words that a program doesn't take are told before all else."""
+        """Tries a call on no input, which each job refuses, so that words that a program doesn't take are reported before all else."""
         ran = self.ran(call, b"")
         if ran.status == NO_JOB:
             said = f": {in_one_line(ran.told)}" if ran.told else ""

@@ -102,7 +102,7 @@ class Batch:
         return True
 
     def certificate(self, name):
-        """The problem with its verdict behind it, or None where there is no evidence."""
+        """The problem with its verdict after it, or None where there is no evidence."""
         return self.certificate_of(*self.answer(name))
 
     def certificate_of(self, problem, answer):

@@ -1,4 +1,4 @@
-"""The stages of a batch: what each asks, with which words, and what it puts behind a problem."""
+"""The stages of a batch: what each asks, with which words, and what it puts after a problem."""
 import collections
 import hashlib
 import json
@@ -17,11 +17,11 @@ class BatchError(Exception):
 
 
 # job: the job of knot, `seek` for the program of this name, or "" for a program that takes no name of a job.
-# words: the options, where a file of quandles that seek reads stands as `--weights=LABEL`. lists: these files, each once.
-# added: the files that stand behind each problem.
+# words: the options, where a file of quandles that seek reads is written as `--weights=LABEL`. lists: these files, each once.
+# added: the files that are after each problem.
 Stage = collections.namedtuple("Stage", "name job words added lists", defaults=((), ()))
 
-# A file of quandles that a stage uses: what it is called, its whole path, its SHA-256 and, where it stands behind the problem, its bytes.
+# A file of quandles that a stage uses: what it is called, its whole path, its SHA-256 and, where it is after the problem, its bytes.
 Listed = collections.namedtuple("Listed", "label path sha data", defaults=(None,))
 
 # The options of seek that name a file of quandles.
@@ -34,7 +34,7 @@ def digest(data):
 
 
 def words_by(stage, field):
-    """The words of a stage, where each file of quandles that they name stands as this field of it."""
+    """The words of a stage, where each file of quandles that they name is written as this field of it."""
     by_label = {one.label: getattr(one, field) for one in stage.lists}
     parts = [(word, *word.partition("=")[::2]) for word in stage.words]
     return [f"{option}={by_label[label]}" if option in LIST_OPTIONS and label in by_label else word for word, option, label in parts]
@@ -77,7 +77,7 @@ def taken_over(word):
 
 
 def same_file(listed):
-    """A file of quandles with its bytes, which are those that its SHA-256 tells."""
+    """A file of quandles with its bytes, which are those that have its SHA-256."""
     found = listed_file(listed.label, listed.path, "")
     if found.sha != listed.sha:
         raise BatchError(f"{listed.path}: it is not what it was when the call began")
@@ -85,7 +85,7 @@ def same_file(listed):
 
 
 def listed_file(label, path, where):
-    """A file of quandles, by what it is called and its path; `where` stands before what is wrong with it."""
+    """A file of quandles, by what it is called and its path; `where` comes before what is wrong with it."""
     try:
         with open(path, "rb") as file:
             data = file.read()

@@ -17,7 +17,7 @@ NAME_LINE = re.compile(r"^# (name|first|second): (.*?)\r?$", re.M)
 
 
 def natural(name):
-    """A key by which 3_1 stands before 10_1."""
+    """A key by which 3_1 comes before 10_1."""
     return [(0, int(part), "") if part.isdecimal() else (1, 0, part) for part in re.split("([0-9]+)", name) if part]
 
 
@@ -109,7 +109,7 @@ def report(batch, names, unreadable, with_summary):
     if not with_summary:
         # Certificates are made and checked when the parts are put together.
         rows = [row._replace(check="") for row in rows]
-    # A part that has run all it has is done, whatever was found; the call that puts the parts together tells.
+    # A part that has run all it has is done, whatever was found; the call that puts the parts together says the rest.
     status = 1 if with_summary and any(row.verdict == "unknown" for row in rows) else 0
     for row in rows:
         for fault in faults_of(batch, row):

@@ -1,4 +1,4 @@
-"""How the programs of tools/ are called: what they read and write, and each fault told in one line with a status.
+"""How the programs of tools/ are called: what they read and write, and each fault reported in one line with a status.
 
 A program ends with 1 and a line `NAME.py: ...` on standard error where its input is at fault, or where a file or a standard stream can't be
 read or written, is full or is closed; with 130 where it is interrupted; and without a line, with 141, where nobody reads its output any more.
@@ -185,7 +185,7 @@ def ended(script, main, words, failed):
         try:
             return main(words)
         except SystemExit as end_of_words:
-            # argparse ends so, behind the help or a complaint.
+            # argparse ends so, after the help or a complaint.
             status = end_of_words.code
         try:
             sys.stdout.flush()

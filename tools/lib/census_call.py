@@ -123,7 +123,7 @@ class Census:
 
     def sorting(self, pool):
         """The sorting of this census by workers."""
-        # Rows, keys, classes told apart, certificates and twice rulings; linking numbers are asked for at the end too.
+        # Rows, keys, classes distinguished, certificates and twice rulings; linking numbers are asked for at the end too.
         return Sorting("census.py", os.path.join(self.folder, "work"), pool, self.lists, self.turns, len(self.plan) + 7)
 
     def texts(self, sorting):
@@ -160,7 +160,7 @@ class Census:
         return {name: Row(rows[mark].fields) for name, mark in marks.items()}
 
     def sorted(self, sorting, programs):
-        """The classes, as far as the steps of the plan tell."""
+        """The classes, as far as the steps of the plan decide."""
         rows = sorting.had(self.drawn(sorting), {name: self.path(name) for name in problem_names(self.diagrams)[0]})
         self.steps = Steps(sorting, programs, self.list_of)
         for step in self.plan:

@@ -1,4 +1,4 @@
-"""The page of a census: one HTML file that stands alone, with a row and a picture for each class."""
+"""The page of a census: one HTML file that needs no other, with a row and a picture for each class."""
 from html import escape
 
 from knot_workbench.identifying import components_of

@@ -8,7 +8,7 @@ from lib.diagrams import MAX_QUANDLES
 # kind: linking, numbers, linear, decide or seek. words: the options of decide and seek. blocks: what `numbers` counts by.
 Step = collections.namedtuple("Step", "name kind words blocks")
 
-# A quandle, with its cocycle, of either kind, where one stands behind it. quandle: the lines of the quandle alone. text: all lines. key: their digest.
+# A quandle, with its cocycle, of either kind, where one is after it. quandle: the lines of the quandle alone. text: all lines. key: their digest.
 # source: the name of the file it came from.
 Block = collections.namedtuple("Block", "quandle text has_weight key source")
 
@@ -25,14 +25,14 @@ def block_label(block):
 
 
 def block_of(lines, source=""):
-    """The quandle of these lines, with a cocycle where one stands among them."""
+    """The quandle of these lines, with a cocycle where one is among them."""
     place = next((place for place, line in enumerate(lines) if line.split()[0] in ("weight", "shadow")), len(lines))
     text = "".join(line + "\n" for line in lines)
     return Block("".join(line + "\n" for line in lines[:place]), text, place < len(lines), digest(text.encode()), source)
 
 
 def blocks_of(text, source=""):
-    """The lines before the first quandle, as they are, and the quandles behind them. Comments and blanks behind it are left out."""
+    """The lines before the first quandle, as they are, and the quandles after them. Comments and blanks after it are left out."""
     lines = text.split("\n")
     first = next((place for place, line in enumerate(lines) if line.split()[:1] == ["quandle"]), None)
     if first is None:
@@ -72,7 +72,7 @@ def read_plan(path):
         if any(step.name == name for step in steps):
             raise BatchError(f"{path}:{line}: a step before has the name '{name}'")
         if not words or words[0] not in KINDS:
-            raise BatchError(f"{path}:{line}: one of {', '.join(KINDS)} is due behind the name '{name}'")
+            raise BatchError(f"{path}:{line}: one of {', '.join(KINDS)} is due after the name '{name}'")
         kind, words = words[0], words[1:]
         files = [word[1:] for word in words if word.startswith("+")]
         if kind in WITH_OPTIONS and files or kind == "numbers" and (not files or len(files) < len(words)) or kind in ("linking", "linear") and words:

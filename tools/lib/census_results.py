@@ -1,4 +1,4 @@
-"""What a census leaves behind: its certificates, checked, and its tables."""
+"""What a census writes: its certificates, checked, and its tables."""
 import collections
 import hashlib
 import os
@@ -25,12 +25,12 @@ SAID = {SAME: "", MIRRORED: "mirror image", REVERSED: "reverse", BOTH: "reversed
 # The most letters of a file's name without its ending; longer ones are cut.
 MAX_FILE_NAME = 150
 
-# Two classes of a census and the turn of the second by which they are compared; where both stand in certificates.
+# Two classes of a census and the turn of the second by which they are compared; where both are in certificates.
 Compared = collections.namedtuple("Compared", "one other turn first second")
 
 
 def file_name(names, turn):
-    """The name of a file for two diagrams, the second after a turn. Where it is long, or could be that of others, a digest stands behind it."""
+    """The name of a file for two diagrams, the second after a turn. Where it is long, or could be that of others, a digest is after it."""
     name = "--".join(names) + turn.words.replace(" ", "~")
     is_plain = len(name) <= MAX_FILE_NAME and not any("~" in one or "--" in f"-{one}-" for one in names)
     return name if is_plain else f"{name[:MAX_FILE_NAME - 40]}~{hashlib.sha256(repr((names, turn.words)).encode()).hexdigest()[:32]}"
@@ -49,7 +49,7 @@ class Results:
         self.folder, self.sorting, self.steps, self.given, self.labels = folder, sorting, steps, given, labels
         self.rows, self.apart, self.undecided, self.rulings = [], [], [], {}
         for row in given.values():
-            # So the first diagram of a class stands for it.
+            # So the first diagram of a class represents it.
             row.crossings = 0
         self.classes = classes_of(given, steps.joins, sorting.keys)
         self.telling = Telling(folder, sorting, given, self.classes, steps.joins)
@@ -66,17 +66,17 @@ class Results:
                 yield Compared(one, other, turn, self.standings.place[one, SAME], self.standings.place[other, turn])
 
     def block_of(self, pair):
-        """The place in certificates of the block that tells a pair apart, or None."""
+        """The place in certificates of the block that distinguishes a pair, or None."""
         return shown_block(self.telling.shown, pair.first, pair.second)
 
     def is_linked(self, pair):
-        """Whether the numbers of components, or linking numbers, tell a pair apart."""
+        """Whether the numbers of components, or linking numbers, distinguish a pair."""
         one, other = (self.classes[number].key for number in (pair.one, pair.other))
         turn = self.standings.keys[pair.first][1].then(self.standings.keys[pair.second][1])
         return not self.steps.joins.numbers.may_be_linked(one, other, turn)
 
     def linked_text(self, pair):
-        """The certificate that tells a pair apart by linking numbers."""
+        """The certificate that distinguishes a pair by linking numbers."""
         both = []
         for place in (pair.first, pair.second):
             key, turn = self.standings.keys[place]
@@ -96,7 +96,7 @@ class Results:
     # ---- all of them
 
     def told(self):
-        """Writes the certificates, has them checked, and says of each diagram and each pair what they tell."""
+        """Writes the certificates, has them checked, and says of each diagram and each pair what they show."""
         found = self.telling.certified(self.head)
         self.rulings.update(self.telling.rulings)
         places = self.telling.places(found)
@@ -115,7 +115,7 @@ class Results:
         return "accepted" if self.rulings[path] else "not accepted"
 
     def tell_pairs(self, paths):
-        """Says of each pair of classes what tells it apart."""
+        """Says of each pair of classes what distinguishes it."""
         pairs = list(self.pairs())
         blocks = {pair: self.block_of(pair) for pair in pairs}
         by_links = [pair for pair in pairs if blocks[pair] is None and self.is_linked(pair)]
@@ -165,7 +165,7 @@ class Results:
 
     def of_two(self, one, other):
         """Of two diagrams, by their names, the texts of certificates that say what is known of them, and for each turn of the second the pair of
-        their classes and what tells it apart, or None. Of two in one class there is one pair."""
+        their classes and what distinguishes it, or None. Of two in one class there is one pair."""
         numbers = sorted(self.standings.places[self.standings.end(self.given[name].form)[0]].number for name in (one, other))
         if numbers[0] == numbers[1]:
             first, second = (self.standings.turn(self.given[name]) for name in (one, other))
@@ -197,7 +197,7 @@ class Results:
 
 
 def shown_block(shown, first, second):
-    """The place of the block of fewest colours by which what stands before the rows tells two classes apart, or None."""
+    """The place of the block of fewest colours by which what is before the rows distinguishes two classes, or None."""
     found = [(block_order(shown.blocks[place]), place)
              for place, (one, other) in enumerate(zip(shown.classes[first].numbers, shown.classes[second].numbers))
              if one is not None and other is not None and one != other]

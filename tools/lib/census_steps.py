@@ -13,7 +13,7 @@ def words_of(step, programs):
 
 
 class Steps:
-    """The keys of a sorting, as far as a plan tells. `names` has for the words of a search what is said of it."""
+    """The keys of a sorting, as far as a plan decides. `names` has for the words of a search what is said of it."""
 
     def __init__(self, sorting, programs, list_of):
         self.sorting, self.programs, self.list_of = sorting, programs, list_of

@@ -16,7 +16,7 @@ no module."""
 
 
 def values_of(module, expressions):
-    """The links that the expressions stand for."""
+    """The links that the expressions mean."""
     names = dict(vars(module))
     for expression in expressions:
         try:
@@ -32,7 +32,7 @@ def code_text(expression, link, code_of):
         rows = [[int(edge) for edge in row] for row in rows]
         if any(len(row) != 4 for row in rows):
             raise ValueError("a row hasn't four edges")
-    except Exception as error:  # (what stands for no link has no code)
+    except Exception as error:  # (what means no link has no code)
         raise calls.Fault(f"{expression}: it has no planar diagram code: {type(error).__name__}: {error}") from None
     if not rows and not loops:
         raise calls.Fault(f"{expression}: the link has no component")
@@ -64,7 +64,7 @@ def program(name, doc, module, code_of):
         parser.add_argument("--seek", default=os.environ.get("SEEK") or os.path.join(TREE, "seek"), metavar="PROGRAM", help="in place of ./seek")
         asked = parser.parse_args(words[: len(words) - len(further) - ("--" in words)])
         if len(asked.link) > 2 or further and len(asked.link) == 1:
-            parser.error("one link is written, and two go to seek, with words behind --")
+            parser.error("one link is written, and two go to seek, with words after --")
         try:
             loaded = importlib.import_module(module)
         except ImportError as error:

@@ -1,6 +1,6 @@
 """Cocycles of a quandle mod a prime power, up to coboundaries, and the coverings that they make.
 
-A vector stands for a square of numbers: the place of φ(x, y) is x * q + y, where q is the order.
+A vector is a square of numbers: the place of φ(x, y) is x * q + y, where q is the order.
 """
 import itertools
 

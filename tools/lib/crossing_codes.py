@@ -17,7 +17,7 @@ def say_lost(code, named):
     if code.loops:
         calls.note(f"{named}note: {code.loops} of the components have no crossing, and the rows do not hold them (--kinks puts them in)")
     for place in all_over(code):
-        calls.note(f"{named}note: component {place + 1} passes over everywhere, and the rows do not hold its direction (--kinks tells it)")
+        calls.note(f"{named}note: component {place + 1} passes over everywhere, and the rows do not show its direction (--kinks does)")
 
 
 def show(name, words, path, expression, built):

@@ -1,7 +1,7 @@
 """Extensions of quandles by a finite field, and the twisted 2-cocycles that make them.
 
 The field is that of the polynomials in t mod a prime and mod one without a factor, t^d + ..., given by its coefficients from the lowest, the leading
-1 left out. An element of it is a tuple of d numbers. A vector stands for a square of elements: the place of part i of θ(x, y) is (x q + y) d + i.
+1 left out. An element of it is a tuple of d numbers. A vector is a square of elements: the place of part i of θ(x, y) is (x q + y) d + i.
 """
 import itertools
 

@@ -150,7 +150,7 @@ def reflection_group(copies, axes):
 
 
 def projective_group(prime, factor):
-    """Generators of maps x to (a x + b) / (c x + d) mod a prime, which itself stands for infinity: all where the factor makes all units."""
+    """Generators of maps x to (a x + b) / (c x + d) mod a prime, which itself means infinity: all where the factor makes all units."""
     inverted = (prime, *(-pow(x, -1, prime) % prime for x in range(1, prime)), 0)
     return [(*((x + 1) % prime for x in range(prime)), prime), inverted, (*(factor * x % prime for x in range(prime)), prime)]
 

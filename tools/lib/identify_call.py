@@ -18,6 +18,7 @@ from lib.code_grids import Grids
 from knot_workbench.faults import BadAnswer, Failed, Fault, NoProgram, Rejected
 from knot_workbench.identifying import ROUNDS, identify
 from knot_workbench.knot_tables import SAME, KnotTable, Turn, digest, name_of
+from knot_workbench.programs import end_calls
 
 ABOUT = "Says which knot a diagram is: its name in a table of the prime knots to 12 crossings, with a certificate."
 
@@ -121,7 +122,7 @@ class Run:
         parts = without_mirrors(found.parts) if is_dt and found.parts else found.parts
         answer = found.answer if parts is None else name_of(parts)
         said = [f"candidates: {', '.join(name_of(one) for one in found.candidates)}"] if found.candidates else []
-        said += ["a DT code doesn't tell it from its mirror image"] * bool(is_dt and parts)
+        said += ["a DT code doesn't distinguish it from its mirror image"] * bool(is_dt and parts)
         if found.certificate is not None and self.options.certificates:
             write_whole(os.path.join(self.options.certificates, file), found.certificate.text.encode())
         return row._replace(answer=answer, ruling=self.ruling(given, first, found, parts, is_dt, said), said="; ".join(said),
@@ -190,7 +191,9 @@ def files_of(givens):
 
 
 def rows_in(path, columns):
-    """The whole rows that stand in a file; none where there is no file. A last line that was cut is left out."""
+    """The whole rows that are in a file; none where there is no file. A last line that was cut is left out."""
+    if os.path.exists(path) and not os.path.isfile(path):
+        raise TableError(f"{path}: not a regular file: name another by --out")
     try:
         with open(path, encoding="utf-8", newline="") as source:
             text = source.read()
@@ -210,7 +213,7 @@ def line_of(row, columns):
 
 
 def known_rows(run, givens, files):
-    """The rows that stand in --out already, by their places."""
+    """The rows that are in --out already, by their places."""
     options, found = run.options, {}
     if not options.out:
         return found
@@ -226,7 +229,7 @@ def known_rows(run, givens, files):
 
 
 def has_certificate(row, file, options):
-    """Whether the certificate of a row that stands in --out is there, where one is due: one that isn't there any more is made anew."""
+    """Whether the certificate of a row that is in --out is there, where one is due: one that isn't there any more is made anew."""
     if not options.certificates or row.answer in WITHOUT or row.answer.startswith("link of "):
         return True
     return row.certificate == file and os.path.isfile(os.path.join(options.certificates, file))
@@ -260,6 +263,10 @@ def done_rows(run, givens, files, known):
                 out.flush()
                 if number % 20 == 0:
                     note(f"identify.py: {number} of {len(waiting)}")
+    except BaseException:
+        # A row of which many walks are left may take minutes.
+        end_calls()
+        raise
     finally:
         pool.shutdown(wait=True, cancel_futures=True)
         if out:
@@ -302,6 +309,8 @@ def main(words):
     options.delimiter = "\t" if options.delimiter == "\\t" else options.delimiter
     options.as_kind = {"dt": "DT", "pd": "PD"}.get(options.as_kind, options.as_kind)
     options.second = None
+    # The rows are put there by a rename, which would replace a link.
+    options.out = options.out and os.path.realpath(options.out)
     options.inputs += options.pd
     if options.processes < 1 or options.steps < 0 or options.skip_rows < 0:
         parser().error("--processes takes 1 or more, --steps and --skip-rows 0 or more")

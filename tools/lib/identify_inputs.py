@@ -14,7 +14,7 @@ from knot_workbench.jobs import grid_by
 
 TABLES = (".csv", ".tsv", ".tab")
 
-# name: of the file or the row. place: where it stands, for messages. entry: its text. kind: how it is read: "file", "braid", "PD", "DT", or
+# name: of the file or the row. place: where it is, for messages. entry: its text. kind: how it is read: "file", "braid", "PD", "DT", or
 # None for a table's entry without a title that says it. strands: what a column of strands says. expected: the name that the table has for it.
 # fault: why it can't be had, or None.
 Given = collections.namedtuple("Given", "name place entry kind strands expected fault", defaults=(None,) * 5)
@@ -101,7 +101,7 @@ def of_file(path):
     try:
         return Given(name, path, decoded(path, read_bytes(path)), "file")
     except TableError as error:
-        return Given(name, path, "", "file", fault=str(error).removeprefix(f"{path}: "))
+        return Given(name, path, "", "file", fault=str(error))
 
 
 def of_table(path, options):

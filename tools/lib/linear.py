@@ -83,7 +83,7 @@ class Span:
         self.rows = {}
 
     def rest(self, vector):
-        """What is left of a vector behind the rows; nothing exactly where the span has it."""
+        """What is left of a vector after the rows; nothing exactly where the span has it."""
         vector = dict(vector)
         left = {}
         while vector:

@@ -19,7 +19,7 @@ LOST = 10
 
 
 class Unanswered(Exception):
-    """A line has no answer; what is told says how its program ended."""
+    """A line has no answer; what is reported says how its program ended."""
 
 
 class Callers:
@@ -79,7 +79,7 @@ def stream_file():
 # ---- one line
 
 class Asked:
-    """What is asked of each line of a run: the call, what is put behind each problem, and what is kept of an answer."""
+    """What is asked of each line of a run: the call, what is put after each problem, and what is kept of an answer."""
 
     def __init__(self, run, program, added):
         self.call = run.call(program)

@@ -105,7 +105,7 @@ def asked_of(run):
 def cut_it(options):
     """Makes a run."""
     if not options.job or options.job[0].startswith(("-", "+")):
-        raise PieceError("--job takes the name of a job, and its words behind it")
+        raise PieceError("--job takes the name of a job, followed by its words")
     say(f"{cut(options)} pieces")
     return 0
 

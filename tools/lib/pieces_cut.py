@@ -18,7 +18,7 @@ NO_WORDS = ("--out", "--braid", "--pd")
 LINE = re.compile(rb"([^\x00-\x1f\x7f#][^\x00-\x1f\x7f]*)\t([^\x00-\x1f\x7f]*[^\x00-\x20\x7f][^\x00-\x1f\x7f]*)\n?")
 # Names are compared by their hashes, in so many parts.
 PARTS = 256
-# How many faults of a table are told.
+# How many faults of a table are reported.
 FAULTS = 20
 
 
@@ -47,7 +47,7 @@ def found_again(run):
 
 
 def added_bytes(run):
-    """What is put behind each problem. Raises PieceError where a file of the run is not as `cut` copied it."""
+    """What is put after each problem. Raises PieceError where a file of the run is not as `cut` copied it."""
     for name, due in run.files:
         path = os.path.join(run.folder, name)
         if sum_of(path) != due:
@@ -76,14 +76,14 @@ class Words:
             self.take(job, words)
 
     def take(self, job, words):
-        """Takes the next word, and the file behind it."""
+        """Takes the next word, and the file after it."""
         word = words.pop(0)
         option, has_value, value = word.partition("=")
         if word.startswith("+"):
             self.added.append(self.copied(word[1:]))
         elif job == "seek" and option in FILE_WORDS:
             if not has_value and not words:
-                raise PieceError(f"a file is due behind {option}")
+                raise PieceError(f"a file is due after {option}")
             self.words += [option, self.copied(value if has_value else words.pop(0))]
         elif job == "seek" and option in NO_WORDS:
             raise PieceError(f"{option} has no place here: each problem is a line of the table")
@@ -182,7 +182,7 @@ def form_fault(line):
     if name.startswith(b"#"):
         return "a name doesn't begin with '#'"
     if not problem.strip():
-        return "it has no problem behind the tab"
+        return "it has no problem after the tab"
     return "it has a second tab" if b"\t" in problem else "it has a control character"
 
 

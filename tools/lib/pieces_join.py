@@ -9,12 +9,12 @@ from lib.pieces_answers import callers
 from lib.pieces_run import PieceError, is_whole, left_of, spans_text, tell
 
 WITH_VERDICT = ("decide", "seek")
-# A verdict with evidence, perhaps behind the line that tells its version.
+# A verdict with evidence, perhaps after the line of its version.
 EVIDENCE = re.compile(rb"(?:certificate [0-9]+ / )?(?:equal|different)(?: |$)")
 
 
 def rows_of(run, number):
-    """Pairs of a line of a piece and its line of the answer. Raises PieceError where a name is missing, stands twice or out of order."""
+    """Pairs of a line of a piece and its line of the answer. Raises PieceError where a name is missing, comes twice or out of order."""
     path = run.path("answers", number)
     names = set()
     with open(run.path("pieces", number), "rb") as lines, open(path, "rb") as answers:
@@ -23,12 +23,12 @@ def rows_of(run, number):
             name, row = line.partition(b"\t")[0], next(rows, b"")
             found = row.partition(b"\t")[0]
             if found != name:
-                why = "stands twice" if found in names else f"stands where '{name.decode()}' is due" if found else ""
+                why = "comes twice" if found in names else f"comes where '{name.decode()}' is due" if found else ""
                 raise PieceError(f"{path}: the name '{found.decode()}' {why}" if why else f"{path}: the name '{name.decode()}' is missing")
             names.add(name)
             yield line, row
         for row in rows:
-            raise PieceError(f"{path}: the name '{row.partition(bytes([9]))[0].decode()}' is none of the piece's, or stands twice")
+            raise PieceError(f"{path}: the name '{row.partition(bytes([9]))[0].decode()}' is none of the piece's, or comes twice")
 
 
 def each_piece(run, numbers):
@@ -141,7 +141,7 @@ def ruled(callers_of, asked, checker, line, row):
 
 
 def shown(row):
-    """A line of an answer without its name, as far as it is told."""
+    """A line of an answer without its name, as far as it is reported."""
     text = row.partition(b"\t")[2].decode("utf-8", "replace").strip().replace("\t", " ")
     return f"'{text[:60]}..'" if len(text) > 60 else f"'{text}'"
 

@@ -37,7 +37,7 @@ class Piece(NamedTuple):
 
 class Run(NamedTuple):
     """What is asked of a table, and its pieces. `files` has a pair of name and SHA-256 for each file that was copied; names of `words` among
-    them stand for the copies; `added` has those that are put behind each problem. Of an answer with status 0 the lines that begin with a word
+    them mean the copies; `added` has those that are put after each problem. Of an answer with status 0 the lines that begin with a word
     of `keep` are kept, or all where there is none."""
 
     folder: str

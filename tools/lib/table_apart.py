@@ -1,4 +1,4 @@
-"""What tells classes apart: numbers of colourings, with columns that settle a diagram, by which `knot check` counts them anew."""
+"""What distinguishes classes: numbers of colourings, with columns that settle a diagram, by which `knot check` counts them anew."""
 import itertools
 import math
 

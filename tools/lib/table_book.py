@@ -39,7 +39,7 @@ def lines_in(data):
 
 
 class Book:
-    """A book, with the lines that stand in it by their names, the last of each. Lines are added by `add`."""
+    """A book, with the lines that are in it by their names, the last of each. Lines are added by `add`."""
 
     def __init__(self, path):
         self.path = path

@@ -1,4 +1,4 @@
-"""Certificates of tables, version 4, as docs/FORMATS.md has them: their classes with numbers that tell these apart, and rows with moves.
+"""Certificates of tables, version 4, as docs/FORMATS.md has them: their classes with numbers that distinguish these, and rows with moves.
 
 A larger table than one certificate may hold is several, each with all classes and a part of the rows.
 """
@@ -12,7 +12,7 @@ MOST_BYTES, MOST_BLOCKS = 33_554_432, 64
 
 
 class Standing(NamedTuple):
-    """A class: what a comment says of it, the diagram that stands for it, columns that settle this one, and its numbers by each block, or None."""
+    """A class: what a comment says of it, the diagram that represents it, columns that settle this one, and its numbers by each block, or None."""
 
     said: str
     grid: Grid
@@ -21,7 +21,7 @@ class Standing(NamedTuple):
 
 
 class Head(NamedTuple):
-    """What all certificates of a table have: the texts of blocks behind the word `quandle`, classes, and pairs of these that are left open."""
+    """What all certificates of a table have: the texts of blocks after the word `quandle`, classes, and pairs of these that are left open."""
 
     blocks: Sequence[str]
     classes: Sequence[Standing]
@@ -40,7 +40,7 @@ def class_text(one: Standing) -> str:
 
 
 def head_text(head: Head) -> str:
-    """All that stands before the rows. ValueError where there are too many blocks."""
+    """All that is before the rows. ValueError where there are too many blocks."""
     if len(head.blocks) > MOST_BLOCKS:
         raise ValueError(f"a certificate has at most {MOST_BLOCKS} blocks, and not {len(head.blocks)}")
     blocks = "".join(f"quandle {text}" for text in head.blocks)
@@ -81,9 +81,9 @@ def certificates(head: str, rows: Iterable[str], most: int = MOST_BYTES) -> Iter
 
 
 def needed(numbers: Sequence[Sequence[Entry]], costs: Sequence[Sequence[Optional[int]]]) -> Tuple[List[List[Entry]], List[int], List[Tuple[int, int]]]:
-    """Which numbers of classes have to be told: for each two classes those by the block of least cost that tells them apart. `costs` has for
-    each class what it costs to count by each block, or None where that can't be done. Answers for each class what is told by each block that
-    is needed, the places of these blocks, and the pairs that no block tells apart."""
+    """Which numbers of classes have to be given: for each two classes those by the block of least cost that distinguishes them. `costs` has for
+    each class what it costs to count by each block, or None where that can't be done. Returns for each class what is said by each block that
+    is needed, the places of these blocks, and the pairs that no block distinguishes."""
     told: List[set] = [set() for _ in numbers]
     left = []
     for second, others in enumerate(numbers):

@@ -1,4 +1,4 @@
-"""What further lists of quandles tell of knots of a table: rows of numbers, as they stand in a book, or counted."""
+"""What further lists of quandles show of knots of a table: rows of numbers, as they are in a book, or counted."""
 import os
 
 from lib.census_plan import blocks_of as plan_blocks
@@ -9,7 +9,7 @@ from knot_workbench.knot_tables import digest
 
 def rows_by(known, names, listed, each, book=None):
     """The rows of these knots and of their mirror images by a list's text, by names. `each` maps a function over items, several at once. What is
-    counted is added to the book, and what stands there isn't counted again."""
+    counted is added to the book, and what is there isn't counted again."""
     blocks, mark = blocks_of(listed), digest(listed)
     places = {name: f"{mark} {digest(diagram_text(known.knots[name].grid))}" for name in names}
 

@@ -17,7 +17,7 @@ MOST_CROSSINGS = 12
 
 class Given:
     """The rows of a call: each a name and a diagram, which is a planar diagram code as tables have it, or what identify_inputs gives. `faults` has
-    what is to be said of rows that can't be taken. `places` says where a name stands."""
+    what is to be said of rows that can't be taken. `places` says where a name is."""
 
     def __init__(self, options):
         self.options, self.faults, self.places = options, [], {}
@@ -74,5 +74,5 @@ def of_lines(path):
 def name_fault(name, seen):
     """Why a row can't have this name, or None; `seen` has the places of those before."""
     if not name.strip() or not name.isprintable() or name.startswith("#"):
-        return "the row has no name that can stand in a line"
-    return f"the name '{name}' stands at {seen[name]} too" if name in seen else None
+        return "the row has no name that fits in a line"
+    return f"the name '{name}' is at {seen[name]} too" if name in seen else None

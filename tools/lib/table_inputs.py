@@ -88,7 +88,7 @@ def tell_odd(table):
 
 
 def in_column(table, fields, column, conventions):
-    """As `diagram_text`; where two columns are read, an error or a warning tells in which the entry stands."""
+    """As `diagram_text`; where two columns are read, an error or a warning says in which the entry is."""
     where = f"column {column + 1}: " if table.second is not None else ""
     try:
         text, warnings = diagram_text(table, fields, column, conventions)
@@ -199,7 +199,7 @@ def file_name(name):
 
 def free_name(base, taken):
     """The name of a file, or where another one has it, the first of NAME-2, NAME-3 and so on that none has; `taken` has the names in small
-    letters, since some systems don't tell them from capitals."""
+    letters, since some systems don't distinguish them from capitals."""
     stem, number, found = base[:-len(".txt")], 1, base
     while found.casefold() in taken:
         number += 1

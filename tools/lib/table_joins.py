@@ -1,4 +1,4 @@
-"""Keys joined to classes: walks are tried only between keys whose numbers agree after some turn. The same tries tell the symmetries of a class."""
+"""Keys joined to classes: walks are tried only between keys whose numbers agree after some turn. The same tries show the symmetries of a class."""
 import collections
 import hashlib
 import itertools
@@ -34,14 +34,14 @@ class Numbers:
         return self._kept[key, turn]
 
     def turns(self, key, aim):
-        """The turns of a key after which nothing that is known tells it from another one."""
+        """The turns of a key after which nothing that is known distinguishes it from another one."""
         if (key, aim) not in self._turns:
             aims = self.row(aim)
             self._turns[key, aim] = [turn for turn in self.of_turns if self.may_be_linked(key, aim, turn) and may_be_one(self.row(key, turn), aims)]
         return self._turns[key, aim]
 
     def may_be_linked(self, key, aim, turn):
-        """Whether linking numbers don't tell a key after a turn from another one. Those of a mirror image are negative."""
+        """Whether linking numbers don't distinguish a key after a turn from another one. Those of a mirror image are negative."""
         (count, numbers), (other, aims) = self.linked[key], self.linked[aim]
         if numbers is not None and turn.is_mirrored:
             numbers = tuple(sorted(-number for number in numbers))
@@ -78,7 +78,7 @@ class Numbers:
 
 class Joins:
     """What is known of keys: `above` has for one that was joined another one, a turn, and the moves from its turned diagram; `told` has the
-    verdicts that tell pairs apart, and `by` the words of the searches that did; `loops` has for turns that leave a first key the same the moves
+    verdicts that distinguish pairs, and `by` the words of the searches that did; `loops` has for turns that leave a first key the same the moves
     from its turned diagram; `book` has all tries, and `vain` for each pair the searches that found nothing; `left` are keys that may still be
     tried."""
 
@@ -118,7 +118,7 @@ class Joins:
         return [key for key in self.roots() if key in found]
 
     def pairs(self, key, aim):
-        """The turns by which a first key may be another one, but those that were told apart, or that symmetries make one with another."""
+        """The turns by which a first key may be another one, but those that were distinguished, or that symmetries make one with another."""
         kept = []
         for turn in self.numbers.turns(key, aim):
             alike = [turn.then(same) for same in self.same[aim]]
@@ -182,7 +182,7 @@ class Joins:
                 go_on(course, [pair])
 
     def take_known(self, pair, words):
-        """Whether it is known what a try finds, by the book or since no linear quandle tells knots of one Alexander polynomial apart; and whether
+        """Whether it is known what a try finds, by the book or since no linear quandle distinguishes knots of one Alexander polynomial; and whether
         the key is joined."""
         line = self.book.lines.get(name_of(pair, words))
         if words[0] == "linear" and self.alexander(pair.key) is not None and self.alexander(pair.key) == self.alexander(pair.aim):

@@ -1,4 +1,4 @@
-"""Linear quandles that tell two knots apart: x ▷ y = t x + (1 − t) y mod a prime p. A knot has more than p colourings where its Alexander polynomial
+"""Linear quandles that distinguish two knots: x ▷ y = t x + (1 − t) y mod a prime p. A knot has more than p colourings where its Alexander polynomial
 has the root t mod p. Nothing rests on that: it only says by which quandle two knots are worth counting."""
 from typing import Optional
 
@@ -13,7 +13,7 @@ PRIMES = [prime for prime in range(3, MOST_COLOURS) if all(prime % part for part
 
 
 def block_between(first: Grid, second: Grid) -> Optional[str]:
-    """The lines, behind the word `quandle`, of a linear quandle of fewest colours by which two knots have other numbers, where the checker can
+    """The lines, after the word `quandle`, of a linear quandle of fewest colours by which two knots have other numbers, where the checker can
     count by it; None where there is none."""
     if alexander_square(first) == alexander_square(second):
         return None
@@ -46,7 +46,7 @@ def is_root(turns, root: int, prime: int) -> bool:
 
 
 def block_text(prime: int, root: int) -> str:
-    """A linear quandle, by its name where that may stand there, else by its table."""
+    """A linear quandle, by its name where that may be there, else by its table."""
     if prime <= MAX_ORDER:
         return f"alexander {prime} {root}\n"
     return f"table {prime}\n" + "".join(" ".join(str((root * x + (1 - root) * y) % prime) for y in range(prime)) + "\n" for x in range(prime))

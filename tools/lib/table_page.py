@@ -1,4 +1,4 @@
-"""The page of a table: one HTML file that stands alone, with a row and a picture for each class."""
+"""The page of a table: one HTML file that needs no other, with a row and a picture for each class."""
 from html import escape
 
 from lib.census_page import whole_page
@@ -8,10 +8,10 @@ HEADS = ("class", "name", "crossings", "diagrams", "symmetry", "mirror image", "
 
 
 def picture_of(number, one):
-    """The picture of the diagram that stands for a class, an SVG element."""
+    """The picture of the diagram that represents a class, an SVG element."""
     # draw.py is a program beside lib.
     from draw import Frame, picture
-    return picture([(0, Frame(one.grid()))], False, 16, 1, False, f"The diagram that stands for class {number}{', ' + one.name if one.name else ''}")
+    return picture([(0, Frame(one.grid()))], False, 16, 1, False, f"The diagram that represents class {number}{', ' + one.name if one.name else ''}")
 
 
 def row_of(number, one):

@@ -70,7 +70,7 @@ class Pool:
             self.tell((method, items))
             found = pickle.load(self.own.worker.stdout)
         except (EOFError, BrokenPipeError, pickle.UnpicklingError):
-            raise Fault("a worker has ended, perhaps for want of memory") from None
+            raise Fault("a worker has ended, perhaps since memory ran out") from None
         if isinstance(found, Fault):
             raise found
         return found

@@ -80,7 +80,7 @@ def roots(ends: Map) -> List[Tuple[int, int]]:
         base, turn = dart & ~3, dart & 3
         around = [size[base | ((turn + place) & 3)] for place in range(4)]
         seen.setdefault(tuple(around), []).append((dart, 1))
-        # Clockwise, the face behind the next dart is the one on its right.
+        # Clockwise, the face after the next dart is the one on its right.
         seen.setdefault(tuple(around[place] for place in (3, 2, 1, 0)), []).append((dart, 3))
     return min((len(found), sight, found) for sight, found in seen.items())[2]
 

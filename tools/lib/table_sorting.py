@@ -100,7 +100,7 @@ class Sorting:
         return {name: Row(book.lines[name]) for name, _ in given}
 
     def drawn(self, rows, places):
-        """The rows that have a grid. Of each other one the reason is told, with the place where it stands."""
+        """The rows that have a grid. Of each other one the reason is reported, with the place where it is."""
         for name, row in rows.items():
             if row.fault is not None:
                 self.fault(f"{places.get(name, name)}: {row.fault}")
@@ -180,7 +180,7 @@ class Sorting:
         return {key: tuple(tuple(map(entry_in, text.split("/"), blocks)) for text in known[key][:sides]) for key in keys}
 
     def learn(self, numbers, keys, place):
-        """Counts keys by a list, behind what is known of them. `texts` are the blocks of the lists that were learned."""
+        """Counts keys by a list, after what is known of them. `texts` are the blocks of the lists that were learned."""
         numbers.learn(self.numbers(keys, place), self.blocks[place])
         self.texts += blocks_in(self.lists[place])
 
@@ -189,7 +189,7 @@ class Sorting:
         return Numbers({key: ((),) * min(2, len(self.turns)) for key in keys}, [], self.turns)
 
     def asked(self, waiting, left):
-        """What searches find, as `try_all` of Joins asks. What has no answer is told."""
+        """What searches find, as `try_all` of Joins asks. What has no answer is reported."""
         progress = Progress(f"{self.script}: {self.what}", len(left))
         for pair, found in self.pool.each("tried", waiting):
             if isinstance(found, Fault):

@@ -48,7 +48,7 @@ class Standings:
         self.blocks, self.left = [], []
 
     def grid(self, place):
-        """The diagram that stands for a class of the certificates."""
+        """The diagram that represents a class of the certificates."""
         one = self.classes[place.number]
         return one.grid(place.turn)
 
@@ -63,7 +63,7 @@ class Standings:
         return next(first for first in one.turns if turn.then(first) in self.joins.same[one.key])
 
     def way(self, key, turn):
-        """Of the first key of a class, after a turn: the place of its class in certificates, and moves to the diagram that stands for this."""
+        """Of the first key of a class, after a turn: the place of its class in certificates, and moves to the diagram that represents this."""
         if (key, turn) not in self._ways:
             number = self.number[key]
             one = self.classes[number]
@@ -94,7 +94,7 @@ class Standings:
         return place, tidied(grid, moves + last)
 
     def end(self, form):
-        """The place of the class of a short form, and the lines of the moves from its grid to the diagram that stands for the class."""
+        """The place of the class of a short form, and the lines of the moves from its grid to the diagram that represents the class."""
         if form not in self._ends:
             key, turn, line = self.forms[form]
             place, moves = self.row(grid_of_form(form), turn, key, moves_in(line))
@@ -102,12 +102,12 @@ class Standings:
         return self._ends[form]
 
     def of_row(self, row):
-        """The place of the class of a row, and the lines of the moves from its grid to the diagram that stands for the class."""
+        """The place of the class of a row, and the lines of the moves from its grid to the diagram that represents the class."""
         place, lines = self.end(row.form)
         return place, [*(row.moves.split(" / ") if row.moves else ()), *lines]
 
     def turn(self, row):
-        """The turn that makes a row's knot of the diagram that stands for its class of the table, the first where there are several."""
+        """The turn that makes a row's knot of the diagram that represents its class of the table, the first where there are several."""
         return self.places[self.end(row.form)[0]].turn
 
     def text_of(self, said, row):
@@ -121,10 +121,10 @@ class Standings:
                 place, moves = self.way(one.key, one.base.then(turn))
                 yield row_text(self.words(Place(number, turn)), one.grid(turn).text, place, tidied(one.grid(turn), moves))
 
-    # ---- what tells them apart
+    # ---- what distinguishes them
 
     def head(self, numbers, texts, further):
-        """What stands before the rows: numbers by blocks of the list, whose texts are given, and of pairs that a search told apart those by
+        """What is before the rows: numbers by blocks of the list, whose texts are given, and of pairs that a search distinguished those by
         other blocks. `further` answers what searches say of two grids each, of a list of such pairs and one of the words of the searches."""
         rows = [numbers.row(key, turn) for key, turn in self.keys]
         seeds = [self.seeds.of(key) for key, _ in self.keys]
@@ -150,7 +150,7 @@ class Standings:
         return Head(self.blocks, standing, self.left)
 
     def add(self, told, pair, found):
-        """Adds numbers of two classes by a block to what is told: whether there was room."""
+        """Adds numbers of two classes by a block to what is said: whether there was room."""
         if not found or found[0] not in self.blocks and len(self.blocks) == MOST_BLOCKS:
             return False
         if found[0] not in self.blocks:
@@ -167,7 +167,7 @@ class Standings:
         return [Pair(*keys, each) for keys in ((one, other), (other, one)) for each in turns]
 
     def is_told(self, first, second):
-        """Whether a search told two classes of certificates apart, as they are or after turns."""
+        """Whether a search distinguished two classes of certificates, as they are or after turns."""
         return any(pair in self.joins.told for pair in self.tries(first, second))
 
     def tell(self):

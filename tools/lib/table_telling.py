@@ -17,7 +17,7 @@ CERTIFICATE = "certificate-{}.txt"
 
 
 class Telling:
-    """What is told of the classes of a sorting, from their rows by names. `shown` is what all certificates have before their rows, and `rulings`
+    """What is said of the classes of a sorting, from their rows by names. `shown` is what all certificates have before their rows, and `rulings`
     has for each certificate whether it is accepted."""
 
     def __init__(self, folder, sorting, rows, classes, joins):
@@ -91,7 +91,7 @@ class Telling:
 
     def head(self):
         """The text of what all certificates have before their rows."""
-        self.sorting.begin("classes told apart")
+        self.sorting.begin("classes distinguished")
 
         def further(pairs, words):
             asked = {in_one_line(one.text + other.text): (one, other, by) for (one, other), by in zip(pairs, words)}

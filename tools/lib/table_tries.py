@@ -4,7 +4,7 @@ import collections
 
 
 class Rounds:
-    """What keys try by one search. `chains` has for each key its pairs, one after the other, with keys that stand before it; `left` are the keys
+    """What keys try by one search. `chains` has for each key its pairs, one after the other, with keys that are before it; `left` are the keys
     that may have a pair yet. A key that is ahead of another one waits where it has to know whether that was joined in an earlier round."""
 
     def __init__(self, chains):
@@ -48,7 +48,7 @@ class Rounds:
 
 
 class Course:
-    """The searches between keys, one after the other: `parts` are the words of each with its rounds. `take` is told of each pair with these words:
+    """The searches between keys, one after the other: `parts` are the words of each with its rounds. `take` is called with each pair with these words:
     it answers whether it is known what comes of it, and whether the key is joined."""
 
     def __init__(self, keys, parts, take):

@@ -38,7 +38,7 @@ BRAIDS = 4
 DECIDE = ("decide", "--spare=1", "--budget=20000")
 WALKS = tuple(("--no-weights", f"--seed={seed}", f"--steps={steps}") for seed, steps in ((1, 100_000), (2, 1_000_000)))
 
-# Short walks of other seeds and a search in order behind a walk that has joined a pair: the shortest list of moves is taken.
+# Short walks of other seeds and a search in order after a walk that has joined a pair: the shortest list of moves is taken.
 SHORTEST = tuple(("shortest", *(("--no-weights", f"--seed={seed}", f"--steps={steps}") for seed in (1, 2, 3)), DECIDE) for steps in (20_000, 100_000))
 
 # In place of a search: numbers of colourings by a linear quandle that the Alexander polynomials name.
@@ -216,7 +216,7 @@ class Worker:
             return asked[0], Fault(str(fault))
 
     def join(self, asked):
-        """What a search finds of two grids: moves, the text of what tells them apart, or None. Its words are those of `seek`, or `decide` and
+        """What a search finds of two grids: moves, the text of what distinguishes them, or None. Its words are those of `seek`, or `decide` and
         those of this job, or LINEAR, or `shortest` and those of several searches, of which the others are tried where the first finds moves."""
         pair, first, second, words = asked
         if first == second:
@@ -229,7 +229,7 @@ class Worker:
             return pair, self.linear(first, second)
         text = first.text + second.text
         if words[0] == "decide":
-            # Numbers are compared before, so one quandle that tells nothing apart stands in place of the built-in list.
+            # Numbers are compared before, so one quandle that distinguishes nothing is in place of the built-in list.
             status, said = self.answered(self.knot, words, text + "quandle trivial 1\n", also=(NOTHING,))
         else:
             status, said = self.answered(self.seek, ["--quiet", *words, "-"], text, also=(NOTHING,))
@@ -240,7 +240,7 @@ class Worker:
             return pair, tuple(verdict.moves) if isinstance(verdict, Equal) else said
 
     def linear(self, first, second):
-        """What tells two grids apart by a linear quandle that suits them, or None."""
+        """What distinguishes two grids by a linear quandle that suits them, or None."""
         block = block_between(first, second)
         if block is None:
             return None
@@ -253,7 +253,7 @@ class Worker:
     # ---- classes
 
     def apart(self, asked):
-        """The text of what tells two grids apart, or None. Of a name, the grids and the words of a search."""
+        """The text of what distinguishes two grids, or None. Of a name, the grids and the words of a search."""
         name, *pair = asked
         _, found = self.join((None, *pair))
         return name, found if isinstance(found, str) else None

@@ -33,7 +33,7 @@ class Class:
             self.crossings, self.first, self.code, self.line, self.base = crossings, name, code, line, base
 
     def grid(self, turn=SAME):
-        """The diagram that stands for it, after a turn."""
+        """The diagram that represents it, after a turn."""
         return self.base.then(turn).of(grid_of_form(self.key))
 
     @property

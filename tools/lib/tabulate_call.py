@@ -47,7 +47,7 @@ exit status:
   128 + N  stopped by signal N; called again, it goes on
 """
 
-# The parts of the work, as they are told.
+# The parts of the work, as they are reported.
 PARTS = 10
 
 # The searches, one after the other: short walks join most keys, and so they come before what is tried between all that is left.

@@ -4,10 +4,10 @@ import os
 import re
 import socket
 
-# What is said behind an error that leaves no room for any answer.
+# What is said after an error that leaves no room for any answer.
 FULL_TEXT = "no room is left, and so all is stopped; called again, it goes on"
 
-# A part of a file bears the host and the process that writes it, so that parts of processes that are gone can be told.
+# A part of a file bears the host and the process that writes it, so that parts of processes that are gone can be recognised.
 PART = re.compile(r"\..*\.(?P<host>[^.]+)\.(?P<process>[0-9]+)\.[0-9]+\.part")
 
 
@@ -43,6 +43,9 @@ def write_whole(path, data):
             break
         except FileExistsError:
             number += 1
+        except OSError as error:
+            error.filename = path
+            raise
     try:
         with out:
             out.write(data)
