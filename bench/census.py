@@ -5,7 +5,7 @@
     python3 bench/census.py --diagrams 100    the first so many of them
     python3 bench/census.py --folder FOLDER   keeps the table and the census there; called again, it goes on
     python3 bench/census.py --seed 2          other disguises
-    python3 bench/census.py -- --with parallel    words behind -- go to census.py
+    python3 bench/census.py -- --with parallel    words after -- go to census.py
 
 The table has the 35 prime knots to 8 crossings by braid words and their mirror images, in seven disguises each, and ten of the unknot. A
 disguise is a braid word some relations and Markov moves away, or the end of a walk of 3,000 moves in 12 to 20 columns. The files are shuffled
@@ -87,7 +87,7 @@ def judged(folder, hidden):
     wrong = [members for members in classes.values() if len({hidden[name] for name in members}) > 1]
     split = [row for row in rows_of(folder, "apart.csv") if hidden[row["first"]] == hidden[row["second"]]]
     print(f"{len(hidden)} diagrams of {len(set(hidden.values()))} links: {len(classes)} classes, {len(wrong)} of them wrong, "
-          f"{len(split)} wrongly told apart")
+          f"{len(split)} wrongly distinguished")
     for row in rows_of(folder, "undecided.csv"):
         first, second = (f"{row[key]} ({hidden[row[key]]})" for key in ("first", "second"))
         print(f"undecided: {first} and {second}: {row['tried']}")

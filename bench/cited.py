@@ -1,16 +1,16 @@
 #!/usr/bin/env python3
-"""Who cites each lemma, definition and law of the tree, by crate, and which of them stand too low.
+"""Who cites each lemma, definition and law of the tree, by crate, and which of them are too low.
 
-    python3 bench/cited.py                 what stands too low, in lines by crate
+    python3 bench/cited.py                 what is too low, in lines by crate
     python3 bench/cited.py low [CRATE..]   the same item by item, and what it serves
     python3 bench/cited.py who [CRATE..]   each item, and the crates that cite it
 
-A lemma stands in proofs/, a definition in specs/. A law is a function of src/laws.rt, or of a public module of a crate of laws,
-NAME_laws. A program needs the code of the crates that it stands on, with contracts and answers. From there the script follows what is cited: definitions, lemmas, laws and their
-proofs. An item that it doesn't come to stands too low: the program waits for its proof, and doesn't need it. Such an item serves
+A lemma is in proofs/, a definition in specs/. A law is a function of src/laws.rt, or of a public module of a crate of laws,
+NAME_laws. A program needs the code of the crates that it uses, with contracts and answers. From there the script follows what is cited: definitions, lemmas, laws and their
+proofs. An item that it doesn't come to is too low: the program waits for its proof, and doesn't need it. Such an item serves
 the first of these that leads to it:
 
-    laws     a law that no code calls, with which it could stand higher; the law itself counts here too
+    laws     a law that no code calls, with which it could be higher; the law itself counts here too
     leaves   a crate that no program needs
     tests    tests of a crate
     nobody   nothing, as worked rows do
@@ -42,7 +42,7 @@ def read(path):
 
 
 def words(text):
-    """The words of a piece of a definition or proof, comments and fields behind a dot left out."""
+    """The words of a piece of a definition or proof, comments and fields after a dot left out."""
     text = re.sub(r"--.*", "", text)
     text = re.sub(r"(?<=[\w')\]])\.[\w'\-]+", " ", text)
     return set(re.split(r"[\s(){}\[\],.;:|@\\]+", text))
@@ -71,7 +71,7 @@ class File:
         self.split(read(path).splitlines())
 
     def split(self, rows):
-        """Each line goes to the item that it belongs to. Comments and lines `unfolding` go to the one behind them, and the head of a
+        """Each line goes to the item that it belongs to. Comments and lines `unfolding` go to the one after them, and the head of a
         module, which binds variables for what is set in below it, to all of those."""
         now, ahead, modules, record, head_open = None, [], [], False, False
         for row in rows:
@@ -226,7 +226,7 @@ class Tree:
         return items, files
 
     def by_paths(self, text, files):
-        """The items that a text names by a path, or behind the word of a file."""
+        """The items that a text names by a path, or after the word of a file."""
         cited = set()
         for crate, part, path in PATH.findall(text):
             module, _, name = path.rpartition(".")
@@ -398,7 +398,7 @@ def totals(tree):
 
 
 def low(tree, crates):
-    """Each item that stands too low, by file."""
+    """Each item that is too low, by file."""
     for crate in crates:
         items = [item for item in tree.too_low() if item.crate == crate]
         if not items:
@@ -428,7 +428,7 @@ def who(tree, crates):
 def main():
     about, _, epilog = __doc__.partition("\n\n")
     parser = argparse.ArgumentParser(description=about, epilog=epilog, formatter_class=argparse.RawDescriptionHelpFormatter)
-    parser.add_argument("part", nargs="?", choices=("totals", "low", "who"), default="totals", help="what is told")
+    parser.add_argument("part", nargs="?", choices=("totals", "low", "who"), default="totals", help="what is listed")
     parser.add_argument("crates", nargs="*", metavar="CRATE", help="of these crates alone")
     parser.add_argument("--top", default=TOP, metavar="DIR", help="another tree")
     parser.add_argument("--programs", default="knot,seek", metavar="A,B", help="the programs, in place of knot and seek")

@@ -51,7 +51,7 @@ def wanted(name, part):
 
 
 def closed(text, at):
-    """The place behind the brace that closes the one at `at`."""
+    """The place after the brace that closes the one at `at`."""
     depth = 0
     for place in range(at, len(text)):
         depth += {"{": 1, "}": -1}.get(text[place], 0)

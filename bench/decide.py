@@ -16,7 +16,7 @@ SIX_CROSSINGS = "braid 3 -1 -1 -1 2 -1 2\nx 0 1\no 1 0\n"
 FIGURE_EIGHT_AND_MIRROR = "braid 3 1 -2 1 -2\nbraid 3 -1 2 -1 2\n"
 SHIFTED = "x 0 1\no 1 0\nx 1 0\no 0 1\n"
 
-# A quandle that tells nothing apart: what is measured is the search.
+# A quandle that distinguishes nothing: what is measured is the search.
 NO_QUANDLE = "quandle trivial 1\n"
 
 
@@ -37,7 +37,7 @@ def words_of(spare, budget):
 
 
 def admitted(verdict):
-    """How many diagrams a search has admitted, by the first line of its verdict; `equal` doesn't tell."""
+    """How many diagrams a search has admitted, by the first line of its verdict; `equal` doesn't say."""
     first = verdict.split()
     return int(first[-1]) if first[0] == "unknown" else None
 

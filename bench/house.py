@@ -1,15 +1,15 @@
 #!/usr/bin/env python3
-"""What the tree shows of its own order: statements that stand twice, names with several meanings, wide proof lines, long files and
+"""What the tree shows of its own order: statements that come twice, names with several meanings, wide proof lines, long files and
 functions, long sentences.
 
     python3 bench/house.py          all of it
     python3 bench/house.py twice    one part: twice, library, meanings, wide, long, names, pages, sentences, stated
 
-A finding is a place to look. Statements are compared by their text, with the names that they bind told apart by place alone. `meanings`
+A finding is a place to look. Statements are compared by their text, with the names that they bind distinguished by place alone. `meanings`
 counts the names that several files of specs/ define, and the types that several files of code declare.
 
 `pages` counts the words of every page `*.md` of the tree between white space, as `wc -w` does, and beside them the words of prose: those
-with a letter or a digit that stand in no block of commands or texts, where all between two backticks is one word. `sentences` reads the
+with a letter or a digit that are in no block of commands or texts, where all between two backticks is one word. `sentences` reads the
 prose by the same rule. A sentence ends at a full stop or at the end of its paragraph, list item or cell of a table. `stated` finds the
 links of pages that lead nowhere, the files that docs/DEFINITIONS.md names and that aren't there, and the names that it says are stated in a
 file, or are laws of its crate or of a crate of laws, and aren't.
@@ -89,7 +89,7 @@ def twice():
         if len(places) > 1:
             count += 1
             print("; ".join(f"{place(path, number)} {name}" for _, path, number, name in places))
-    print(f"{count} statements stand more than once")
+    print(f"{count} statements come more than once")
     return count
 
 
@@ -126,11 +126,11 @@ def library():
             if found:
                 count += 1
                 print(f"{place(path, number)} {name} is {found}")
-    print(f"{count} statements of {len(known)} of the library stand here too")
+    print(f"{count} statements of {len(known)} of the library are here too")
 
 
 def defined_twice():
-    """Definitions of specs with one text behind their names."""
+    """Definitions of specs with one text after their names."""
     seen = {}
     for crate, path in files("specs", ".antt"):
         rows = lines_of(path)
@@ -151,7 +151,7 @@ def defined_twice():
         if len(places) > 1:
             count += 1
             print("; ".join(f"{place(path, number)} {name}" for path, number, name in places))
-    print(f"{count} definitions stand more than once")
+    print(f"{count} definitions come more than once")
     return count
 
 
@@ -233,7 +233,7 @@ def pages_of_prose():
 
 
 def prose_lines(path):
-    """The lines of a page that stand in no block of commands or texts, with their numbers; a code in backticks is made one word."""
+    """The lines of a page that are in no block of commands or texts, with their numbers; a code in backticks is made one word."""
     fenced = indented = False
     before = ""
     for number, line in enumerate(lines_of(os.path.join(TOP, path)), 1):
@@ -321,7 +321,7 @@ def code_of(crate):
 
 
 def stated():
-    """Names that stand in no file where docs/DEFINITIONS.md says that they do, and are no laws of its crate or of a crate of laws."""
+    """Names that are in no file where docs/DEFINITIONS.md says that they are, and are no laws of its crate or of a crate of laws."""
     count = names_of = 0
     laws = "".join("\n".join(lines_of(path)) for name, path in files("src", ".rt") if name.endswith("_laws"))
     for number, line in enumerate(lines_of(os.path.join(TOP, "docs", "DEFINITIONS.md")), 1):

@@ -1,4 +1,4 @@
-"""Parts of house.py that look at crates: the floors on which they stand by the names in their files, and how large they are.
+"""Parts of house.py that look at crates: the floors on which they are by the names in their files, and how large they are.
 
     python3 bench/house.py floors    floors by names, what crates.txt says otherwise, and what it lists that no file names
     python3 bench/house.py sizes     functions and lines of code by crate, against the most that the kit advises
@@ -13,7 +13,7 @@ FUNCTION = re.compile(r"( *)(?:pub(?:\([a-z]+\))? )?(?:const )?(?:unsafe )?fn (\
 
 
 def listed(top=TOP):
-    """What crates.txt says: by crate its floor, or None, and what it stands on, in the order of the file."""
+    """What crates.txt says: by crate its floor, or None, and what it uses, in the order of the file."""
     floor, found = None, {}
     with open(os.path.join(top, "crates.txt"), encoding="utf-8") as file:
         for line in file:
@@ -41,7 +41,7 @@ def without_comments(text, part):
 
 
 def named_in(text):
-    """The libraries that a text may name: what stands before `::`, behind `use`, or in a path of definitions."""
+    """The libraries that a text may name: what is before `::`, after `use`, or in a path of definitions."""
     return set(re.findall(r"\b([a-z]\w*)::", text)) | set(re.findall(r"\buse ([a-z]\w*)", text)) | set(re.findall(r"\bRattle\.(\w+)\.", text))
 
 
@@ -83,13 +83,13 @@ def floors(top=TOP):
         count += len(idle)
         if idle:
             print(f"{crate}: crates.txt lists what no file names: {' '.join(idle)}")
-    print(f"{len(others)} crates stand on another floor than crates.txt says; it lists {count} libraries that no file of their crate names")
+    print(f"{len(others)} crates are on a floor other than crates.txt says; it lists {count} libraries that no file of their crate names")
 
 
 def functions_of(rows):
     """The functions of a file in rt fmt's layout: name, and the numbers of the first line, of the one in which the body opens, and of the last.
 
-    The body opens with a brace alone, behind a contract, or with one at the end of the signature, where there is none. A function of a
+    The body opens with a brace alone, after a contract, or with one at the end of the signature, where there is none. A function of a
     trait without a body has that line for its last too."""
     for number, row in enumerate(rows, 1):
         found = FUNCTION.match(row)

@@ -5,7 +5,7 @@
     python3 bench/reach.py --program FILE     the same pairs by another build of knot
 
 A walk tries 400 moves of all kinds but slides, passes over those that are not legal, never has more columns than it is to end with,
-and goes on until it has these. A quandle that tells nothing apart keeps colours out of it.
+and goes on until it has these. A quandle that distinguishes nothing keeps colours out of it.
 """
 import argparse
 import random

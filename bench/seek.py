@@ -14,9 +14,9 @@ and by the walks alone.
 
 The pairs are made here, from a seed of their own: two words of one knot by braid relations and Markov moves; a diagram, and where a
 walk of 3,000 moves from it ends in 12 to 24 columns; sums of two knots in either order; links; and unknots in disguise. Each pair is
-one process, and its seconds are those of the processor; what workers gain is told by the clock. The instructions of a step are those
+one process, and its seconds are those of the processor; what workers gain is shown by the clock. The instructions of a step are those
 of a walk of 220,000 steps less those of one of 20,000, between a diagram and its mirror image, which no moves join and no quandle
-tells apart, over the 200,000 steps.
+distinguishes, over the 200,000 steps.
 
 The walks alone are those of the same seed. `seek` has no word for them, so they are timed like this. With 64 times the quandle of one
 colour in place of the first quandles, and no cocycles, all before the short walk takes next to nothing. Where the short walk joins a pair, that

@@ -6,7 +6,7 @@
     python3 bench/soak.py --wide 60                   60 of them within a cap of up to seven columns
 
 Pairs of grids of two to five columns, the second a random one or the first after random shifts, within a cap of at most six
-columns. All diagrams of so few columns fit the default budget, so a search of one worker tells for each pair whether moves
+columns. All diagrams of so few columns fit the default budget, so a search of one worker shows for each pair whether moves
 join it within the cap, and if not, how many diagrams they reach; within seven columns the largest budget is enough for that.
 Then with any number of workers:
 
@@ -32,7 +32,7 @@ AMPLE, WIDE = 20_000, 500_000
 WORKERS, WIDE_CAP, MOST_SPARE = range(2, 17), 7, 3
 # Stands before each verdict.
 HEAD = "certificate 2\n"
-# A quandle that tells nothing apart: what is soaked is the search.
+# A quandle that distinguishes nothing: what is soaked is the search.
 NO_QUANDLE = "quandle trivial 1\n"
 
 

@@ -1,12 +1,12 @@
 #!/usr/bin/env python3
-"""How many pairs of the table of knots `seek` tells apart or joins, by which evidence, each certificate checked by `knot check`.
+"""How many pairs of the table of knots `seek` distinguishes or joins, by which evidence, each certificate checked by `knot check`.
 
     python3 bench/table.py                      the pairs of the 35 prime knots to 8 crossings, in a folder that is removed
     python3 bench/table.py --folder FOLDER      keeps problems, certificates and the summary there; called again, it goes on
     python3 bench/table.py --only mirrors       one kind of pairs: mirrors, knots or turned
     python3 bench/table.py --first 10           the pairs of the first ten knots
     python3 bench/table.py --each               also a line for each pair: its verdict, the evidence with its numbers, the ruling and the seconds
-    python3 bench/table.py -- --processes 1     words behind -- go to tools/batch.py
+    python3 bench/table.py -- --processes 1     words after -- go to tools/batch.py
 
 `mirrors` has each knot and its mirror image, `knots` each two knots, and `turned` each knot and the mirror image of each other one. The
 knots are the braid words of quandles/knots-to-8.csv. The pairs are run by tools/batch.py with the job `seek`, so `seek` has its own options
@@ -58,7 +58,7 @@ def write_problems(folder, table, only):
 
 
 def names_of_tables(text):
-    """The names of the quandles of a list that stand there as tables with a cocycle, by their orders and moduli."""
+    """The names of the quandles of a list that are there as tables with a cocycle, by their orders and moduli."""
     found = re.findall(r"^# (\w+): [^\n]*\nquandle table (\d+)\n(?:[\d ]+\n)+?(?:weight|shadow) (\d+)\n", text, re.MULTILINE)
     names = collections.defaultdict(list)
     for name, order, modulus in found:
@@ -67,7 +67,7 @@ def names_of_tables(text):
 
 
 def evidence_of(row, tables):
-    """What tells the diagrams of a row apart, in words: the lists of colourings by a quandle, their numbers, or those of each weight."""
+    """What distinguishes the diagrams of a row, in words: the lists of colourings by a quandle, their numbers, or those of each weight."""
     said, _, numbers = row["evidence"].partition(": ")
     words = said.removeprefix("numbers ")
     weighed = words.removesuffix(" by weight")
@@ -101,7 +101,7 @@ def show_each(rows, found, tables):
 
 def show(rows, found, tables):
     """Prints how many pairs of each kind came to what, by which evidence, and which are left: whether anything is wrong."""
-    print(f"{'pairs':36} {'all':>5} {'told apart':>11} {'joined':>7} {'left':>5} {'seconds':>8}")
+    print(f"{'pairs':36} {'all':>5} {'different':>11} {'joined':>7} {'left':>5} {'seconds':>8}")
     for kind, said in KINDS.items():
         those = [row for row in rows if found[row["name"]].kind == kind]
         counts = collections.Counter(row["verdict"] for row in those)
@@ -112,7 +112,7 @@ def show(rows, found, tables):
     for row in rows:
         if row["verdict"] == "different":
             by[found[row["name"]].kind][evidence_of(row, tables)] += 1
-    print(f"\n{'told apart by':36} " + " ".join(f"{kind:>8}" for kind in KINDS))
+    print(f"\n{'different by':36} " + " ".join(f"{kind:>8}" for kind in KINDS))
     for evidence, _ in sum(by.values(), collections.Counter()).most_common():
         print(f"{evidence:36} " + " ".join(f"{by[kind][evidence]:8}" for kind in KINDS))
     checked = [row for row in rows if row["check"]]

@@ -1,6 +1,6 @@
 #!/bin/sh
 # Runs every example through ./knot: examples/JOB/NAME.txt must give NAME.out, and the exit status in NAME.status, or 0.
-# Further words stand in NAME.args, in one line. What decide answers with status 0 must be accepted by check behind its input.
+# Further words are in NAME.args, in one line. What decide answers with status 0 must be accepted by check after its input.
 # Those of check are answered likewise by the separate checker, where crates/knot_check/out/knot_check is there or KNOT_CHECK names it.
 # Then every example of ./seek: the words in seek/NAME.words, one a line, must give NAME.out and NAME.err, or nothing, and the status.
 # Where KNOT or SEEK names a program, the launchers call it, and none is built.
@@ -20,7 +20,7 @@ seek=$top/seek
 passed=0
 failed=0
 
-# Whether the answer that was found, behind the input, is accepted. The examples end with a line feed.
+# Whether the answer that was found, after the input, is accepted. The examples end with a line feed.
 is_accepted() {
     [ "$(cat "$1" "$found" | "$knot" check)" = accepted ]
 }
@@ -45,7 +45,7 @@ for input in "$here"/*/*.txt; do
         echo "differs: $name, status $status, wanted $wanted"
     elif [ "$job" = decide ] && [ "$status" -eq 0 ] && ! is_accepted "$input"; then
         failed=$((failed + 1))
-        echo "not accepted behind its input: $name"
+        echo "not accepted after its input: $name"
     else
         passed=$((passed + 1))
     fi

@@ -4,9 +4,9 @@
     examples/shown.py              README.md and docs/GUIDE.md
     examples/shown.py FILE..       these
 
-A document's commands run one behind the other in one shell, in a copy of the tree without the crates, where ./knot and ./seek
+A document's commands run one after the other in one shell, in a copy of the tree without the crates, where ./knot and ./seek
 are the programs of this tree, or those that KNOT and SEEK name, as the launchers call them; so a file that one command makes is there for
-the next. A block begins at the top of the copy. A line `...` stands for lines that are left out, and where nothing is shown below a command,
+the next. A block begins at the top of the copy. A line `...` means lines that are left out, and where nothing is shown below a command,
 what it gives isn't compared. A command that needs Regina or Sage isn't tried where they aren't installed, and is named. Status 0 where all
 that was tried is as shown."""
 
@@ -78,7 +78,7 @@ def given(shell, command):
 
 
 def is_as_shown(shown, found):
-    """Whether the lines are those that are shown, where `...` stands for any."""
+    """Whether the lines are those that are shown, where `...` means any."""
     if "..." not in shown:
         return shown == found
     at = shown.index("...")

@@ -60,7 +60,7 @@ class Caller:
             if before:
                 before()
 
-        # (standard error is a pipe, so that a limit of files doesn't cut what is told there)
+        # (standard error is a pipe, so that a limit of files doesn't cut what is reported there)
         with open(self.paths[0], "rb") as given, open(self.paths[1], "wb") as taken:
             child = subprocess.Popen([self.name, *words[self.dropped:]], executable=self.program, stdin=given if stdin is None else stdin,
                                      stdout=taken if stdout is None else stdout, stderr=subprocess.PIPE, preexec_fn=prepare, restore_signals=False)

@@ -249,7 +249,7 @@ def texts(bases):
 # ---------------------------------------------------------------- both sides of limits
 
 def filled(text, unit, size):
-    """A text with a unit behind it again and again, and then remarks, up to a number of bytes."""
+    """A text with a unit after it again and again, and then remarks, up to a number of bytes."""
     text = text + unit * max(0, (size - len(text) - 2) // len(unit))
     return text + b"#" * (size - len(text))
 

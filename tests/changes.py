@@ -18,7 +18,7 @@ def read(path):
 
 
 def examples(folder, jobs):
-    """All examples of some jobs as (name, job, further words, text), and behind them what `decide` answers, behind its problem."""
+    """All examples of some jobs as (name, job, further words, text), and after them what `decide` answers, after its problem."""
     found = []
     for path in sorted(glob(os.path.join(folder, "*", "*.txt"))):
         job, stem = os.path.basename(os.path.dirname(path)), path[:-4]

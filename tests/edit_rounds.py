@@ -175,7 +175,7 @@ def link_or_copy(one, other):
 
 
 def crates_at_or_below(top, crate):
-    """The lines of crates.txt for a crate and for those that it stands on, by name."""
+    """The lines of crates.txt for a crate and for those that it uses, by name."""
     with open(f"{top}/crates.txt", encoding="utf-8") as file:
         lines = {line.split(":")[0].split()[0]: line for line in (row.partition("#")[0] for row in file) if ":" in line}
     found, left = {}, [crate]

@@ -1,5 +1,5 @@
 #!/usr/bin/env python3
-"""Runs the gate, and says behind it how many seconds of the processor its proofs, tests and edits took.
+"""Runs the gate, and says after it how many seconds of the processor its proofs, tests and edits took.
 
     tests/gate_seconds.py rt ci           runs it
     tests/gate_seconds.py --beside PID    looks at what the process PID has begun, until a signal or the end of PID; .ci/run calls it so
@@ -50,7 +50,7 @@ def is_below(number, top, now):
 
 
 def call_of(number):
-    """The words of a call of the prover behind its path; none where the process is none."""
+    """The words of a call of the prover after its path; none where the process is none."""
     words = bytes_of(f"/proc/{number}/cmdline").decode("utf-8", "replace").split("\0")
     for place, word in enumerate(words):
         if word.endswith(PROVER):

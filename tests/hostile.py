@@ -249,7 +249,7 @@ class Trier:
 
 
 class SeekTrier:
-    """Tries `seek` under limits of the system: it must find what it finds on an ordinary day, or end for want of memory with nothing written."""
+    """Tries `seek` under limits of the system: it must find what it finds on an ordinary day, or end with nothing written if memory runs out."""
 
     OLD = b"what was there\n"
 
@@ -460,7 +460,7 @@ def main():
     number = sum(total.kinds.values())
     print(f"all: {total}\n    with seed {options.seed}, in {time.time() - begin:.0f} seconds, by {program}{f' and {checker}' if checker else ''}")
     if total.differences:
-        print(f"each difference stands in {options.folder}")
+        print(f"each difference is in {options.folder}")
     return 0 if number and not total.differences else 1
 
 

@@ -68,7 +68,7 @@ Each difference is printed, and last a line with the counts. There are some 4,50
 exit status:
   0  each row has what it must
   1  some have not
-  2  the words are no call, a row is none, or a program is wanting; nothing was tried
+  2  the words are no call, a row is none, or a program is missing; nothing was tried
 """
 import argparse
 import contextlib
@@ -550,7 +550,7 @@ class Runner:
 
     def part_nothing(self, case, ended, _number, _text):
         named = {*case.files, *case.links, *case.pipes, *(detail for part, detail, _ in case.wanted if part == "written")}
-        return [differs("what else stands there", sorted({*os.listdir(ended.folder)} - {name.split("/")[0] for name in named}), [])]
+        return [differs("what else is there", sorted({*os.listdir(ended.folder)} - {name.split("/")[0] for name in named}), [])]
 
     def part_mode(self, case, ended, name, _text):
         return [differs(f"the mode of {name}", f"{stat.S_IMODE(os.stat(os.path.join(ended.folder, name)).st_mode):o}", f"{case.modes[name]:o}")]

@@ -1,6 +1,6 @@
 #!/usr/bin/env python3
 """Sets what `seek` says of bad lines beside what `knot decide` answers: the same line, the same status, and a reason for it, which
-`knot` tells on a terminal too. Where its standard error is none, it tells nothing.
+`knot` says on a terminal too. Where its standard error is none, it says nothing.
 
     python3 tests/sentences.py                  20,000 random changes of the examples of `decide` and of the texts below
     python3 tests/sentences.py --cases 500      fewer
@@ -40,7 +40,7 @@ def bases():
 
 
 def said_by_knot(text):
-    """The status, the line that is named, if one is, and what is told on a terminal."""
+    """The status, the line that is named, if one is, and what is reported on a terminal."""
     status, said, told = terminals.run([KNOT, "decide", "--budget", "2"], text)
     named = re.fullmatch(rb"(?:malformed|limit) line ([0-9]+)\n", said)
     return status, int(named[1]) if named else None, told

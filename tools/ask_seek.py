@@ -122,7 +122,7 @@ def diagram_of(way, word):
 
 
 def problem_of(given):
-    """Both diagrams and the quandles behind them. None if the words don't name two diagrams."""
+    """Both diagrams and the quandles after them. None if the words don't name two diagrams."""
     if len(given) == 2:
         return diagram_of(*given[0]), diagram_of(*given[1]), []
     if len(given) > 2 or given and given[0][0] != "--file":

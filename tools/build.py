@@ -43,7 +43,7 @@ MEMORY_EACH = 3_500_000_000
 TRIAL_PROCESSORS, TRIAL_SECONDS = 3, 60
 # The statuses with which the checker has read its input and ruled on it, or said which line is wrong.
 RULED = (0, 3, 4, 8)
-# How many letters of a trial's answer are told.
+# How many letters of a trial's answer are reported.
 TOLD = 200
 # How many lines of a log are shown where something failed.
 SHOWN = 15
@@ -170,7 +170,7 @@ class Plan:
 
 
 def called(programs):
-    """What is built, as it is told."""
+    """What is built, as it is reported."""
     if programs == [CHECKER]:
         return "the separate checker"
     return "the program" if len(programs) == 1 else f"each of the {('two', 'three')[len(programs) - 2]} programs"
@@ -196,7 +196,7 @@ def processors():
 
 
 def free_memory():
-    """The bytes of memory that are free, or None where the system doesn't tell."""
+    """The bytes of memory that are free, or None where the system doesn't say."""
     try:
         with open("/proc/meminfo", encoding="utf-8") as file:
             for line in file:
@@ -284,7 +284,7 @@ class Run:
 
 
 class Trial:
-    """A run of the checker's sources before their proof, beside the build. What it answers is told, and counts for nothing."""
+    """A run of the checker's sources before their proof, beside the build. What it answers is reported, and counts for nothing."""
 
     def __init__(self, folder, input_file, say):
         self.say = say
@@ -348,7 +348,7 @@ class Build:
         return [Room(self.tree, names, os.path.join(self.place, f"room-{number}")) for number in range(min(count, len(names)))]
 
     def announce(self):
-        """Says what comes, and what may be wanting."""
+        """Says what comes, and what may be missing."""
         left, count = self.plan.left, self.plan.total
         memory = MEMORY_CHECKER if self.programs == [CHECKER] else MEMORY
         whole = sum(self.tree.seconds[name] for name in self.tree.needed([it for it in PROGRAMS if it in self.tree.named]))
@@ -464,7 +464,7 @@ def build_folder(root):
 
 
 def relative(path):
-    """A path as it is told: from the folder of the call, where that is shorter."""
+    """A path as it is reported: from the folder of the call, where that is shorter."""
     try:
         return min(path, os.path.relpath(path), key=len)
     except (OSError, ValueError):

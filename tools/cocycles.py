@@ -190,7 +190,7 @@ def say_search(knots, paths, moduli, folder):
             calls.put(path, f"# {name} and {other}, found by tools/cocycles.py search; an input of weights, which says for the two:\n"
                       + "".join(f"# weights {' '.join(map(str, line))}\n" for line in (one, two))
                       + diagram_text(first) + diagram_text(second) + quandle_text(quandle) + cocycle_text(cocycle, modulus))
-    print(f"{equal} pairs have equal numbers of colourings by all quandles that fit both; weights tell {told} of them apart")
+    print(f"{equal} pairs have equal numbers of colourings by all quandles that fit both; weights distinguish {told} of them")
 
 
 def all_colourings(grid, quandle):
@@ -219,7 +219,7 @@ def candidates_of(paths):
 
 
 def read_pair(text):
-    """Two diagrams, and nothing else; or with quandles behind them, which are left aside."""
+    """Two diagrams, and nothing else; or with quandles after them, which are left aside."""
     lines = Lines(text)
     pair = [read_diagram(lines) for _ in range(2)]
     read_quandles(lines)
@@ -237,7 +237,7 @@ def pair_and_lists(paths):
     """The two diagrams, of the file that begins with a diagram or else of standard input, and the other files."""
     problems = [path for path in paths if is_problem(path)]
     if len(problems) > 1:
-        raise calls.Fault(f"{problems[1]}: {problems[0]} begins with a diagram too: both diagrams stand in one file")
+        raise calls.Fault(f"{problems[1]}: {problems[0]} begins with a diagram too: both diagrams are in one file")
     text = calls.text_of(*problems)
     with calls.naming(problems[0] if problems else "standard input"):
         return read_pair(text), [path for path in paths if path not in problems]
@@ -283,7 +283,7 @@ def cost(candidate, grids):
 def difference(candidate, grids, moduli):
     """(modulus, cocycle, weights, weights) by which two diagrams differ, or None, and how many cocycles were tried.
 
-    Where the numbers of colourings differ, all cocycles tell it, and the one of zeros is taken."""
+    Where the numbers of colourings differ, all cocycles show it, and the one of zeros is taken."""
     order = len(candidate.quandle.over)
     found = [weighing.all_met(grid, candidate.quandle, is_connected(candidate.quandle.over)) for grid in grids]
     one, two = (len(met) * each for met, each in found)
@@ -305,7 +305,7 @@ def note(said):
 
 
 def say_find(paths, largest, moduli, out):
-    """Writes what tells two diagrams apart, and says what was tried; ends with 1 where nothing was found."""
+    """Writes what distinguishes two diagrams, and says what was tried; ends with 1 where nothing was found."""
     pair, lists = pair_and_lists(paths)
     grids = [grid_of(diagram) for diagram in pair]
     every = candidates_of(lists or default_lists(largest))
@@ -325,9 +325,9 @@ def say_find(paths, largest, moduli, out):
     lines = [f"weights {' '.join(map(str, row))}\n" for row in rows]
     named = f"{candidate.name}, of order {len(candidate.quandle.over)}"
     if sum(rows[0]) != sum(rows[1]):
-        note(f"{named}, has {sum(rows[0])} colourings of the first and {sum(rows[1])} of the second: behind the two, decide tells them apart by it")
+        note(f"{named}, has {sum(rows[0])} colourings of the first and {sum(rows[1])} of the second: after the two, decide distinguishes them by it")
     else:
-        note(f"{named}, with a cocycle mod {modulus} tells them apart: {' and '.join(line.strip() for line in lines)}")
+        note(f"{named}, with a cocycle mod {modulus} distinguishes them: {' and '.join(line.strip() for line in lines)}")
     calls.put(out, f"# {candidate.name}, found by tools/cocycles.py find; an input of weights, which says for the two:\n"
               + "".join(f"# {line}" for line in lines) + "".join(map(diagram_text, pair)) + quandle_text(candidate.quandle) + cocycle_text(cocycle, modulus))
 

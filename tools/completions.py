@@ -62,7 +62,7 @@ def bash(name, jobs, options):
     words = " ".join(word.name for word in options)
     files_of = "local IFS=$'\\n'; COMPREPLY=($(compgen -f -- \"$word\")); compopt -o filenames 2>/dev/null"
     names = [word.name for word in jobs]
-    # Behind a job no further one is proposed.
+    # After a job no further one is proposed.
     bare = (f'[[ " ${{COMP_WORDS[*]:1:COMP_CWORD-1}} " =~ \\ ({"|".join(names)})\\  ]] || '
             f"COMPREPLY=($(compgen -W {quoted(' '.join(names))} -- \"$word\"))" if jobs else files_of)
     return f"""# Completion of {name} for bash.
@@ -83,7 +83,7 @@ complete -F _{name}_words {name}
 # ---- zsh
 
 def zsh_text(text):
-    """What stands in brackets or behind a colon."""
+    """What is in brackets or after a colon."""
     return re.sub(r"([\[\]:\\])", r"\\\1", text)
 
 

@@ -35,7 +35,7 @@ def main():
     parser.add_argument("--title", help="the picture's title for those who don't see it, in place of one that counts columns and frames")
     words = parser.parse_args()
     if not 8 <= words.cell <= 200 or words.across < 1:
-        parser.error("a cell is 8 to 200, and at least one frame stands in a line")
+        parser.error("a cell is 8 to 200, and at least one frame is in a line")
     with calls.naming(words.input):
         frames, is_pair = read_frames(calls.text_of(words.input))
     try:

@@ -24,7 +24,7 @@ def main():
         diagram = read_diagram(lines)
         lines.done()
     found = invariants(diagram)
-    jones = found.jones_text or f"not worked out: more than {MOST_OPEN} columns stand side by side"
+    jones = found.jones_text or f"not worked out: more than {MOST_OPEN} columns are side by side"
     calls.put(None, f"components {found.components}\nalexander {found.alexander_text}\ndeterminant {found.determinant}\n"
                     f"signature {found.signature}\njones {jones}\n")
 

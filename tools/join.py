@@ -34,7 +34,7 @@ def walked(grid, moves, name):
 
 
 def read_problem(path):
-    """Two diagrams and the quandles behind them."""
+    """Two diagrams and the quandles after them."""
     with calls.naming(path):
         lines = Lines(calls.text_of(path))
         first, second, quandles = read_diagram(lines), read_diagram(lines), read_quandles(lines)

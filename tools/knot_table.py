@@ -46,7 +46,7 @@ from knot_workbench.knot_tables import (MIRRORED, SYMMETRIES, KnotTable, beside,
 from knot_workbench.table_entries import Conventions, diagram_of
 
 BUDGET = 20_000
-# The steps of walks that join a word to a grid: before larger quandles are tried, and behind them.
+# The steps of walks that join a word to a grid: before larger quandles are tried, and after them.
 SHORT, LONG = 300_000, 8_000_000
 # So many knots are tried before what is known of symmetries is put down.
 FIFTY = 50
@@ -58,7 +58,7 @@ def arcs_text(grid):
 
 
 class Work:
-    """Makes many things at once, tells how far it is, and counts what differs."""
+    """Makes many things at once, says how far it is, and counts what differs."""
 
     def __init__(self, processes):
         self.processes, self.differing = processes, 0
@@ -134,16 +134,16 @@ def numbers(path, asked, work):
     found = [(knot, *(rows.get(knot.name) or old[digest(diagram_text(knot.grid))])) for knot in knots]
     for knot, *texts in found:
         if old.get(digest(diagram_text(knot.grid))) != texts:
-            work.differs(f"{target}: {knot.name}: the numbers are others than those that stand there")
+            work.differs(f"{target}: {knot.name}: the numbers differ from those in the file")
     text = rows_text(listed, found)
     if not work.differing and text != text_or_none(target):
-        work.differs(f"{target}: it is another file than that which is due")
+        work.differs(f"{target}: it is not the file that is due")
     if asked.write and work.differing:
         write_whole(target, text.encode())
 
 
 def old_numbers(path, listed):
-    """The two rows that stand in a file, by the digests of diagrams; none where it was counted by another list."""
+    """The two rows that are in a file, by the digests of diagrams; none where it was counted by another list."""
     text = text_or_none(path) or ""
     if not text.startswith(f"list {digest(listed)}\n"):
         return {}
@@ -192,7 +192,7 @@ def names(path, asked, work):
 
 
 def symmetry_text(found):
-    """What stands in a table of a certificate: `equal`, `different` and by what, or `open`."""
+    """What is in a table of a certificate: `equal`, `different` and by what, or `open`."""
     if found is None:
         return "open"
     if found.is_equal:
@@ -203,7 +203,7 @@ def symmetry_text(found):
 
 
 def symmetry(path, asked, work):
-    """Joins each knot to itself after each turn, or tells it apart; what two turns show of the third is taken as shown."""
+    """Joins each knot to itself after each turn, or distinguishes it; what two turns show of the third is taken as shown."""
     found = Symmetries(path, asked)
     found.by_rows(labels_of(found.known.listed), {name: (found.known.row(name), found.known.row(name, MIRRORED)) for name in found.rows}, asked.list)
     mirrors = (MIRROR, MIRROR_REVERSE)
@@ -222,7 +222,7 @@ def symmetry(path, asked, work):
 
 
 def rounds_to(count):
-    """The first rounds of walks, each a seed and steps: those of identify.py, and behind them as many steps as in the last, with other seeds."""
+    """The first rounds of walks, each a seed and steps: those of identify.py, and after them as many steps as in the last, with other seeds."""
     return [ROUNDS[place] if place < len(ROUNDS) else (place + 1, ROUNDS[-1][1]) for place in range(count)]
 
 
@@ -242,12 +242,12 @@ def walked(first, second, seed, steps):
 
 ALL = MIRROR, REVERSE, MIRROR_REVERSE = tuple(column for column, _ in SYMMETRIES)
 
-# The turns that are tried first: most knots are told from their mirror images by rows, and most others are their own reverses.
+# The turns that are tried first: most knots are distinguished from their mirror images by rows, and most others are their own reverses.
 TRIED = (SYMMETRIES[1], SYMMETRIES[0], SYMMETRIES[2])
 
 
 class Symmetries:
-    """What is known of the symmetries of a table's knots: `rows` have it by names, and `old` what stands in the file."""
+    """What is known of the symmetries of a table's knots: `rows` have it by names, and `old` what is in the file."""
 
     def __init__(self, path, asked):
         self.asked, self.target = asked, beside(path, ".symmetry.csv")
@@ -270,7 +270,7 @@ class Symmetries:
                 row[other] = symmetry_by(row, other) or "open"
 
     def by_rows(self, labels, rows, file):
-        """Takes what the rows of knots and of their mirror images tell by a list."""
+        """Takes what the rows of knots and of their mirror images show by a list."""
         blocks = blocks_of(text_in(file))
         for name in set(rows).intersection(self.open_names()):
             row, mirrored = rows[name]
@@ -340,7 +340,7 @@ def kind_of(row):
         return "their own mirror images and reverses"
     if "open" in row.values():
         return "open" + (f", but their own {joined[0]}" if joined else "")
-    return f"their own {joined[0]} alone" if joined else "told from all three"
+    return f"their own {joined[0]} alone" if joined else "distinguished from all three"
 
 
 def symmetry_by(row, column):
@@ -361,8 +361,8 @@ def main():
     parser.add_argument("--further", action="append", default=[], metavar="FILE", help="a further list of quandles that may rule symmetries out")
     parser.add_argument("--mirrors", action="append", default=[], metavar="FILE", help="a further list that may rule mirror images out")
     parser.add_argument("--rounds", type=int, default=len(ROUNDS), metavar="N",
-                        help="how many rounds of walks for symmetries, behind the fourth each as long and with another seed (default: %(default)s)")
-    parser.add_argument("--walk", action="append", choices=ALL, help="walks for this symmetry alone; it may stand several times")
+                        help="how many rounds of walks for symmetries, after the fourth each as long and with another seed (default: %(default)s)")
+    parser.add_argument("--walk", action="append", choices=ALL, help="walks for this symmetry alone; it may be given several times")
     parser.add_argument("--book", metavar="FILE", help="keep what was counted and walked for symmetries here")
     parser.add_argument("--list", metavar="FILE", help="the list of quandles by which is counted")
     add_program_words(parser)
@@ -374,7 +374,7 @@ def main():
         work = Work(asked.processes)
         {"grids": grids, "numbers": numbers, "names": names, "symmetry": symmetry}[asked.what](path, asked, work)
         differing += work.differing
-        calls.say(f"{path}: {asked.what}: " + (f"{work.differing} lines differ" if work.differing else "as they stand there"))
+        calls.say(f"{path}: {asked.what}: " + (f"{work.differing} lines differ" if work.differing else "as in the file"))
     sys.exit(1 if differing and not asked.write else 0)
 
 

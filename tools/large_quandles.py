@@ -27,7 +27,7 @@ EIGHT = Field(2, (1, 1, 0))
 SIXTEEN = Field(2, (1, 1, 0, 0))
 
 
-# Maps of a field, as permutations of its elements, and of infinity behind them
+# Maps of a field, as permutations of its elements, and of infinity after them
 
 def power(field, exponent):
     """The map x to x^k."""
@@ -45,7 +45,7 @@ def shifts(field):
 
 
 def with_infinity(permutation):
-    """The same with infinity behind the other points, where it stays."""
+    """The same with infinity after the other points, where it stays."""
     return (*permutation, len(permutation))
 
 

@@ -64,7 +64,7 @@ def inline(text):
 
 
 def block(lines):
-    """Lines that stand as they are."""
+    """Lines that are as they are."""
     return [".PP", ".RS 4", ".nf", *(escaped(line) if line else "\\&" for line in lines), ".fi", ".RE"]
 
 
@@ -137,7 +137,7 @@ def head(name, number, said):
 
 
 def version():
-    """What `knot --version` says behind its name."""
+    """What `knot --version` says after its name."""
     return re.search(r"echo knot ([0-9.]+)", document("launch"))[1]
 
 
@@ -155,7 +155,7 @@ def further_help():
 
 
 def help_part(text, first):
-    """The indented lines of a help behind a line that begins so, up to the next line that isn't indented."""
+    """The indented lines of a help after a line that begins so, up to the next line that isn't indented."""
     found = re.search(rf"(?m)^{re.escape(first)}.*\n((?: .*\n|\n(?= ))*)", text)
     if not found:
         raise calls.Fault(f"a help has no line '{first}', which a manual page is made from")

@@ -168,7 +168,7 @@ def say_pairs(knots, list_paths):
                 known[quandle.over] = [count_of(quandle, braid) for _, braid in knots]
             rows.append(known[quandle.over])
         near, all_told = told_apart(rows, neighbours), told_apart(rows, every)
-        print(f"{name}: {len(quandles)} quandles, {len(near)} of {len(neighbours)} neighbours and {len(all_told)} of {len(every)} pairs told apart")
+        print(f"{name}: {len(quandles)} quandles, {len(near)} of {len(neighbours)} neighbours and {len(all_told)} of {len(every)} pairs distinguished")
         for what, pairs, told in (("neighbours", neighbours, near), ("pairs", every, all_told)):
             left = [f"{knots[a][0]} and {knots[b][0]}" for a, b in pairs if (a, b) not in told]
             if len(left) <= 20:

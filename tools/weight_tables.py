@@ -2,7 +2,7 @@
 """Makes the ready tables of quandles/weights/, quandles with cocycles that distinguish many knots from their mirror images or reverses.
 
     tools/weight_tables.py [FOLDER]             writes the tables of at most 32 colours, T5 to A28, and the list that seek tries
-    tools/weight_tables.py --larger FOLDER      writes those of more colours, M42a to S120, which only seek --weights and check take
+    tools/weight_tables.py --larger FOLDER      writes those of more colours, M42a to S120, which only numbers, seek --weights and check take
     tools/weight_tables.py --rows FOLDER        writes the shorter list by which rows of tables of knots are counted
 
 FOLDER is quandles/weights/ beside this folder if none is given. Append a table to two diagrams for the job weights:
@@ -48,9 +48,9 @@ IDENTITY = ((1, 0), (0, 1))
 FOUR = (2, (1, 1))
 EIGHT = (2, (1, 1, 0))
 
-# What stands in the list: quandles of no cocycle, and then those with one, the fewest colours first. A number is the order of a dihedral
-# quandle with Mochizuki's shadow cocycle, a name one of the tables. Behind them stand quandles of more than 32 colours, those first that
-# tell most a millisecond.
+# What is in the list: quandles of no cocycle, and then those with one, the fewest colours first. A number is the order of a dihedral
+# quandle with Mochizuki's shadow cocycle, a name one of the tables. After them come quandles of more than 32 colours, those first that
+# distinguish most a millisecond.
 LIST = "list"
 PLAIN = ("dihedral 3", "tetrahedral", "alexander 5 2", "alexander 7 2", "alexander 11 3", "alexander 17 10")
 WEIGHED = (3, 5, 7, "F8", 11, "T5", 13, 17, 19, "M20a", "M20b", 23, "T7", "F27", "F27b", "H27", "A28", 29, "M30", 31)
@@ -349,7 +349,7 @@ def rows_text():
 
 
 def listed_text(one):
-    """A quandle, mostly with a cocycle, as it stands in a list."""
+    """A quandle, mostly with a cocycle, as it is in a list."""
     if isinstance(one, int):
         return f"quandle dihedral {one}\nshadow mochizuki\n"
     for name, said, generators, element in classes() if one in LAST else ():

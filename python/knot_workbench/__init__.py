@@ -5,18 +5,18 @@
     >>> found.is_equal, found.check()
     (True, True)
 
-Calls take a Grid, a Braid, a text as "2 1 1 1", or a link of Regina, SnapPy or Sage; the docstring of `diagram` has all texts.
+Calls take a Grid, a Braid, a text such as "2 1 1 1", or a link of Regina, SnapPy or Sage; the docstring of `diagram` lists all forms.
 
-The calls run the built programs knot and seek, which the variables KNOT and SEEK or `use` name, or which lie in the tree or the prefix of
-this module, or on PATH. Nothing in this module is proved: a certificate's `check` asks the checker.
+The calls run the built programs knot and seek: those that `use` or the variables KNOT and SEEK name, or else those in this module's tree or
+prefix, or on PATH. Nothing in this module is proved: a certificate's `check` asks the checker.
 
 Diagrams      Grid, Braid, diagram, from_pd, from_dt, from_gauss, from_code, from_table, from_sage, from_regina, from_snappy
 Quandles      quandle, Quandle, cocycle, Cocycle, ShadowCocycle, built_in_list
-Searches      seek, decide, which answer a Certificate; or None, or an Unknown
+Searches      seek, decide, which return a Certificate, or else None (seek) or an Unknown (decide)
 One diagram   colour, numbers, code, simplify, least, braid_word, replay
 Two diagrams  linking, weights
 Certificates  Certificate, check
-Which knot    identify, by a KnotTable; invariants, for the eye; census, which sorts a folder of diagrams into classes
+Which knot    identify, by a KnotTable; invariants, which are no evidence; census, which sorts a folder of diagrams into classes
 Pictures      draw, page; in a notebook diagrams and certificates show themselves
 Errors        each one is a Fault; the module faults has them all
 

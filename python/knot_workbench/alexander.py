@@ -1,9 +1,9 @@
-"""The Alexander polynomial of a grid at one place, which tells which candidates are worth a walk. No answer rests on it."""
+"""The value of a grid's Alexander polynomial at one number: a candidate with another value isn't worth a walk. No answer rests on it."""
 from typing import List
 
 from .diagrams import Grid
 
-# The field that is counted in, and the place.
+# The field that is counted in, and the number.
 PRIME, PLACE = 2 ** 61 - 1, 1_234_567
 
 

@@ -105,7 +105,7 @@ class Answer(NamedTuple):
 
     @property
     def short(self) -> str:
-        """The first line behind the line that tells the version of a verdict. Of a quandle by a table the table stands behind it, and where
+        """The first line after the line of the version of a verdict. Of a quandle by a table the table is after it, and where
         the verdict is the last line, as in `linking` and `weights`, that comes first. Of evidence by numbers the quandle, or by its order a
         table, and the numbers of both diagrams."""
         lines = without_head_line(self.text).splitlines()
@@ -124,7 +124,7 @@ class Answer(NamedTuple):
 
     @property
     def has_evidence(self) -> bool:
-        """Whether it is a verdict with evidence, which `check` rules on behind its problem."""
+        """Whether it is a verdict with evidence, which `check` rules on after its problem."""
         return self.status == ANSWERED and without_head_line(self.text).partition(" ")[0] in ("equal", "different")
 
     def value(self) -> Any:
@@ -153,7 +153,7 @@ def reading(job: str) -> Iterator[None]:
 
 
 def without_head_line(text: str) -> str:
-    """An answer without the line that tells the version of a verdict."""
+    """An answer without the line of the version of a verdict."""
     head, _, rest = text.partition("\n")
     return rest if head in ("certificate 2", "certificate 3") else text
 
@@ -192,7 +192,7 @@ def read_compared(lines: Lines, word: str) -> Any:
 
 
 def read_counts(lines: Lines) -> Counts:
-    """The lines `numbers` and `wide`, each behind its quandle, whose table is passed over."""
+    """The lines `numbers` and `wide`, each after its quandle, whose table is passed over."""
     found: List[Optional[Rows]] = []
     while lines.peek() is not None:
         if lines.take("a quandle")[1][0] != "quandle":
@@ -208,7 +208,7 @@ def read_counts(lines: Lines) -> Counts:
 
 
 def read_led(lines: Lines, end: str) -> Tuple[Grid, Tuple[Move, ...], bool]:
-    """A grid, the moves that lead to it, and whether this word stands behind them, and not `spent`."""
+    """A grid, the moves that lead to it, and whether this word is after them, and not `spent`."""
     grid, moves = read_grid(lines), read_moves(lines)
     due = f"the line '{end}' or 'spent'"
     line, tokens = lines.take(due)
@@ -219,7 +219,7 @@ def read_led(lines: Lines, end: str) -> Tuple[Grid, Tuple[Move, ...], bool]:
 
 
 def read_word(lines: Lines) -> Braid:
-    """A braid word, which may exceed the limits that a braid has where a diagram is due. What stands behind it is passed over."""
+    """A braid word, which may exceed the limits that a braid has where a diagram is due. What is after it is passed over."""
     line, tokens = lines.take("the line 'braid'")
     letters = [number_of(token, line, signed=True) for token in tokens[1:]]
     if tokens[0] != "braid" or not letters:

@@ -83,9 +83,9 @@ class Certificate:
     """Two diagrams, the quandles of the problem, and the verdict `equal` or `different` with its evidence.
 
     `first`, `second`  the diagrams, each a Grid or a Braid
-    `quandles`         those behind the diagrams, which the verdict doesn't need
+    `quandles`         those after the diagrams, which the verdict doesn't need
     `verdict`          Equal, Different, DifferentNumbers or DifferentLinking
-    `version`          1, 2 or 3: of version 2 no shift of columns stands behind a shift, and none of rows behind one of rows; version 3 has
+    `version`          1, 2 or 3: of version 2 no shift of columns is after a shift, and none of rows after one of rows; version 3 has
                        numbers for evidence
 
     Nothing is believed of it before `check`.
@@ -147,14 +147,14 @@ class Certificate:
         return check(self.text)
 
     def holds(self) -> bool:
-        """Has `knot check` rule on it: whether the evidence holds. `check` tells the cause where it doesn't."""
+        """Has `knot check` rule on it: whether the evidence holds. `check` gives the cause where it doesn't."""
         try:
             return self.check()
         except Rejected:
             return False
 
     def __bool__(self) -> bool:
-        """True, whether it says that the two are the same or that they differ: evidence was found. `is_equal` tells which."""
+        """True, whether it says that the two are the same or that they differ: evidence was found. `is_equal` says which."""
         return True
 
     def _repr_svg_(self) -> str:
@@ -256,12 +256,12 @@ def third_text(verdict: Union[DifferentNumbers, DifferentLinking]) -> str:
 
 
 def line_text(word: str, numbers: Rows) -> str:
-    """A word and numbers behind it."""
+    """A word and numbers after it."""
     return " ".join([word, *map(str, numbers)]) + "\n"
 
 
 def read_verdict(lines: Lines, first: Optional[Grid] = None, second: Optional[Grid] = None) -> Tuple[Verdict, int]:
-    """The verdict that stands last, and its version. Where the diagrams aren't known, lists of colours have lines of any length, all of the
+    """The verdict that is last, and its version. Where the diagrams aren't known, lists of colours have lines of any length, all of the
     same. Raises BadText."""
     version = 1
     if lines.peek() == "certificate":
@@ -284,7 +284,7 @@ def read_verdict(lines: Lines, first: Optional[Grid] = None, second: Optional[Gr
 
 
 def read_third(lines: Lines) -> Union[DifferentNumbers, DifferentLinking]:
-    """A verdict of version 3, behind its first line."""
+    """A verdict of version 3, after its first line."""
     line, tokens = lines.take("a verdict 'different'")
     if tokens == ["different", "linking"]:
         return DifferentLinking(*(Linked(numbers_behind(lines, "components", 1)[0], numbers_behind(lines, "numbers")) for _ in range(2)))
@@ -310,7 +310,7 @@ def cocycle_parts(lines: Lines, quandle: Quandle) -> Tuple[int, Tuple[Rows, ...]
 
 
 def numbers_behind(lines: Lines, word: str, count: Optional[int] = None) -> Rows:
-    """The numbers behind a word, negative ones too: so many, or any."""
+    """The numbers after a word, negative ones too: so many, or any."""
     line, tokens = lines.take(f"the line '{word}'")
     if tokens[0] != word or count not in (None, len(tokens) - 1):
         raise BadText(f"the line '{word}' is due" + (f", with {count} numbers" if count and tokens[0] == word else ""), line)

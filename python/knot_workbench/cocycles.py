@@ -55,7 +55,7 @@ def cocycle_text(cocycle: Sequence[Sequence[int]], modulus: int) -> str:
 
 
 def read_cocycle(lines: Lines, quandle: Quandle) -> Tuple[int, List[List[int]]]:
-    """The modulus and the square of an item `weight` behind its quandle."""
+    """The modulus and the square of an item `weight` after its quandle."""
     line, tokens = lines.take("the line 'weight'")
     if tokens[0] != "weight" or len(tokens) != 2:
         raise BadText("a line 'weight' with a modulus is due", line)
@@ -90,7 +90,7 @@ def shadow_fault(table: Sequence[Sequence[int]], cube: Sequence[Sequence[Sequenc
 
 
 def read_shadow(lines: Lines, quandle: Quandle) -> ShadowCocycle:
-    """A shadow cocycle, an item `shadow` behind its quandle."""
+    """A shadow cocycle, an item `shadow` after its quandle."""
     line, tokens = lines.take("the line 'shadow'")
     order = len(quandle.over)
     if tokens[0] != "shadow" or len(tokens) != 2:
@@ -121,7 +121,7 @@ def read_shadow(lines: Lines, quandle: Quandle) -> ShadowCocycle:
 
 
 def read_weighed_quandles(lines: Lines) -> List[Tuple[Quandle, Optional[Tuple[int, List[List[int]]]]]]:
-    """Quandles to the end of the text, each with the modulus and the cocycle that stand behind it, or None. Those with a shadow cocycle are
+    """Quandles to the end of the text, each with the modulus and the cocycle that are after it, or None. Those with a shadow cocycle are
     left out."""
     found = []
     while lines.peek() == "quandle":

@@ -8,7 +8,7 @@ from .programs import Ran, fault_of, path_of
 
 GRID = re.compile(r"x((?: [0-9]+)+)\no((?: [0-9]+)+)\n")
 CAUSES = (
-    (r"rejected edge ([0-9]+)", "the edge {} doesn't stand exactly twice"),
+    (r"rejected edge ([0-9]+)", "the edge {} doesn't occur exactly twice"),
     (r"rejected direction ([0-9]+)", "strands run against each other on the edge {}"),
     (r"rejected plane", "no diagram in the plane has this code"),
     (r"rejected empty", "the code has no crossing and no loop"),

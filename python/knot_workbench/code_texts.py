@@ -5,16 +5,16 @@
     >>> read_text("{-1, 2, -3, 1, -2, 3}").kind
     'Gauss'
 
-Taken are, with brackets of any kind, commas or blanks:
+These forms are read, with brackets of any kind, commas or blanks:
 
     PD     PD[X[4,2,5,1], ..], [[4,2,5,1], ..], [(4,2,5,1), ..], and what the job `code` of knot writes
-    DT     DT[4,6,2], [4,6,2], DTCode[{6,8},{2,4}], DT:[(4,6,2)], and letters as DT[cacbca]: the numbers of crossings and components, the
+    DT     DT[4,6,2], [4,6,2], DTCode[{6,8},{2,4}], DT:[(4,6,2)], and letters such as DT[cacbca]: the numbers of crossings and components, the
            length of each component, and then 2, 4, .. as a, b, .. and -2, -4, .. as A, B, ..
     Gauss  GaussCode[-1,2,-3,1,-2,3], {1,-2,3,-1,2,-3}, a list for each component; O1+U2+O3+U1+O2+U3+ with the signs of the crossings;
            [[[-1,2,-3,1,-2,3]],[1,1,1]], whose second list has the signs
 
-Of a list without a word its numbers tell what it is. A DT code, and a Gauss code without signs of crossings, are also codes of the mirror
-image: `parts` tells how many parts of the diagram may each be mirrored.
+If a list has no word before it, its numbers decide which code it is. A DT code, and a Gauss code without signs of crossings, are also codes of
+the mirror image: `parts` is how many parts of the diagram may each be mirrored.
 """
 import re
 from typing import Any, Dict, Iterable, List, NamedTuple, Optional, Sequence, Tuple, Union
@@ -47,7 +47,7 @@ class CodeOf(NamedTuple):
     `kind`   "PD", "DT" or "Gauss", as it was given
     `rows`   the crossings of a planar diagram code of it
     `loops`  how many components have no crossing
-    `parts`  of how many parts each may be replaced by its mirror image and has the same code; 0 where the code tells them
+    `parts`  of how many parts each may be replaced by its mirror image and has the same code; 0 where the code decides them
     `given`  the text itself, where it was one of knot's own, whose Gauss lines decide directions
     """
 
@@ -110,7 +110,7 @@ def unwrapped(items: List[Any]) -> List[Any]:
 def plain(value: Any) -> Any:
     """Lists of whole numbers, of any lists, tuples and numbers that count. Raises BadCode."""
     if isinstance(value, str):
-        raise BadCode(f"'{value[:20]}' stands where a number is due")
+        raise BadCode(f"a number is due, and not '{value[:20]}'")
     if hasattr(value, "__index__"):
         return int(value.__index__())
     try:
@@ -129,7 +129,7 @@ def kind_of_text(text: str) -> Tuple[Optional[str], str]:
 
 
 def read_text(text: str, kind: Optional[str] = None) -> CodeOf:
-    """The code of a text: of this kind, or of that which its word or its numbers tell. Raises BadCode."""
+    """The code of a text: of this kind, or of that which its word or its numbers decide. Raises BadCode."""
     if not text.strip():
         raise BadCode("the code is empty")
     if OF_KNOT.match(text):
@@ -149,7 +149,7 @@ def read_text(text: str, kind: Optional[str] = None) -> CodeOf:
 
 
 def read_lists(value: Iterable[Any], kind: Optional[str] = None) -> CodeOf:
-    """The code of lists of whole numbers: of this kind, or of that which they tell. Raises BadCode."""
+    """The code of lists of whole numbers: of this kind, or of that which they decide. Raises BadCode."""
     items = plain(value)
     if not isinstance(items, list):
         raise BadCode(f"{value!r:.30} is no code: a text or lists of numbers are due")
@@ -160,7 +160,7 @@ def read_lists(value: Iterable[Any], kind: Optional[str] = None) -> CodeOf:
     if kind == "PD":
         return of_pd([items] if len(items) == 4 and are_numbers(items) else items)
     if kind == "DT":
-        # SnapPy has the list of flips behind the components.
+        # SnapPy has the list of flips after the components.
         if len(items) == 2 and isinstance(items[1], list) and items[1] and are_numbers(items[1]) and set(items[1]) <= {0, 1}:
             items = unwrapped(items[:1])
         return of_dt([items] if are_numbers(items) else items)
@@ -169,7 +169,7 @@ def read_lists(value: Iterable[Any], kind: Optional[str] = None) -> CodeOf:
             return of_signed(unwrapped_components(items[0]), items[1])
         return of_gauss([items] if are_numbers(items) else items)
     raise BadCode("the lists are those of no PD, DT or Gauss code: of a PD code each has four edges; of a DT code the numbers are 2, 4 and so on, "
-                  "each once, with either sign; of a Gauss code each number stands twice, once negative")
+                  "each once, with either sign; of a Gauss code each number comes twice, once negative")
 
 
 def is_signed(items: List[Any]) -> bool:
@@ -213,7 +213,7 @@ def of_pd(rows: List[Any]) -> CodeOf:
         if min(row) < 0:
             raise BadCode(f"row {place} has the edge {min(row)}, and the names of edges are 0 or more")
     if not rows:
-        raise BadCode("a PD code without rows doesn't tell how many unknots it has")
+        raise BadCode("a PD code without rows doesn't say how many unknots it has")
     return CodeOf("PD", within(rows), 0, 0)
 
 
@@ -276,7 +276,7 @@ def components_of_letters(word: str) -> List[List[int]]:
     crossings, count = values[0], values[1]
     lengths, numbers = values[2:2 + max(count, 0)], values[2 + max(count, 0):]
     if count < 1 or len(lengths) != count or min(lengths, default=0) < 1 or sum(lengths) != crossings or len(numbers) != crossings:
-        raise BadCode(f"the letters '{word[:20]}' are no DT code: the first tells the crossings, the second the components, then comes the length "
+        raise BadCode(f"the letters '{word[:20]}' are no DT code: the first gives the crossings, the second the components, then comes the length "
                       "of each, and a letter for each crossing")
     components = []
     for length in lengths:

@@ -81,7 +81,7 @@ class _Braid(NamedTuple):
 
 
 class Braid(_Braid):
-    """A braid word, which stands for its closure: letter k is the positive crossing of strands k and k + 1, and -k undoes it.
+    """A braid word, which means its closure: letter k is the positive crossing of strands k and k + 1, and -k undoes it.
 
     `Braid(2, [1, 1, 1])` has its strands first. Of a list alone, as `Braid([1, 1, 1])`, it has as many as its letters need. A text is that of
     `seek --braid`: "2 1 1 1" has strands and letters, "{1,1,1}" letters alone. Raises BadDiagram where there is no strand, a letter is not on
@@ -292,7 +292,7 @@ class Lines:
     def done(self) -> None:
         """Raises BadText where a line is left."""
         if self.place < len(self.lines):
-            raise BadText(f"nothing is due any more, but '{' '.join(self.lines[self.place][1])}' stands here", self.lines[self.place][0])
+            raise BadText(f"nothing more is due, but here is '{' '.join(self.lines[self.place][1])}'", self.lines[self.place][0])
 
 
 def number_of(token: str, line: Optional[int], signed: bool = False) -> int:
@@ -369,7 +369,7 @@ def read_grid(lines: Lines) -> Grid:
 
 
 def read_quandle(lines: Lines, word: str = "quandle", largest: int = MAX_ORDER) -> Quandle:
-    """The quandle of a line `quandle`, or of another word that stands before its name, with the lines of its table, which has at most the largest
+    """The quandle of a line `quandle`, or of another word that is before its name, with the lines of its table, which has at most the largest
     order. Raises BadText."""
     line, tokens = lines.take("a quandle")
     if tokens[0] != word or len(tokens) < 2:
@@ -378,7 +378,7 @@ def read_quandle(lines: Lines, word: str = "quandle", largest: int = MAX_ORDER) 
 
 
 def quandle_named(lines: Lines, line: int, tokens: Sequence[str], largest: int = MAX_ORDER) -> Quandle:
-    """The quandle of a name, the last tokens of a line, with the lines of its table behind it, which has at most the largest order. Raises BadText."""
+    """The quandle of a name, the last tokens of a line, with the lines of its table after it, which has at most the largest order. Raises BadText."""
     name, numbers = tokens[0] if tokens else "", [number_of(token, line) for token in tokens[1:]]
     wanted = {"trivial": 1, "dihedral": 1, "tetrahedral": 0, "alexander": 2, "table": 1}.get(name)
     if wanted is None or wanted != len(numbers):
@@ -414,7 +414,7 @@ def read_table(lines: Lines, order: int) -> Quandle:
 
 
 def read_quandles(lines: Lines) -> List[Quandle]:
-    """All quandles that stand next."""
+    """All quandles that are next."""
     quandles = []
     while lines.peek() == "quandle":
         quandles.append(read_quandle(lines))
@@ -422,7 +422,7 @@ def read_quandles(lines: Lines) -> List[Quandle]:
 
 
 def read_moves(lines: Lines) -> List[Move]:
-    """The moves behind a line `moves` or `equal` with their number. Raises BadText."""
+    """The moves after a line `moves` or `equal` with their number. Raises BadText."""
     line, tokens = lines.take("the line 'moves'")
     if tokens[0] not in ("moves", "equal") or len(tokens) != 2:
         raise BadText("a line 'moves' or 'equal' with their number is due", line)

@@ -12,14 +12,14 @@ from .diagrams import (BadText, Lines, covers, ends, grid_of, is_colouring, move
                        read_quandles, walk)
 from .moves import Illegal, carried, made
 
-# Sixteen colours that stay apart on white. Of more colours the next sixteen have them again; the numbers below the columns tell which.
+# Sixteen colours that stay apart on white. Of more colours the next sixteen have them again; the numbers below the columns say which.
 PALETTE = ("#1f5fbf", "#d62728", "#1a8a34", "#e08a00", "#7b3fb0", "#00949e", "#c2388f", "#6b4a2b",
            "#77a31a", "#5b6770", "#0b2e66", "#8c1218", "#0d5c2e", "#b5a100", "#4c6ef5", "#e36b54")
 INK = "#222222"
 
 
 class Frame:
-    """What one picture shows: a grid, its colours or None, the quandle or None, and what stands above it."""
+    """What one picture shows: a grid, its colours or None, the quandle or None, and what is above it."""
 
     def __init__(self, grid, colours=None, quandle=None, caption=""):
         self.grid, self.colours, self.quandle, self.caption = grid, colours, quandle, caption
@@ -42,7 +42,7 @@ def read_frames(text):
         if lines.peek() == "different":
             return read_different(lines, grid, second), True
         if lines.peek() != "equal":
-            raise BadText("behind two diagrams and quandles a verdict 'equal' or 'different' is due", lines.take("a verdict")[0])
+            raise BadText("after two diagrams and quandles a verdict 'equal' or 'different' is due", lines.take("a verdict")[0])
     if lines.peek() in ("moves", "equal"):
         moves = read_moves(lines)
     quandle = colours = None
@@ -56,7 +56,7 @@ def read_frames(text):
 
 
 def along(grid, moves, quandle, colours):
-    """A frame for the grid and one behind each move, with the carried colours."""
+    """A frame for the grid and one after each move, with the carried colours."""
     frames = [Frame(grid, colours, quandle)]
     for place, move in enumerate(moves):
         try:
@@ -195,19 +195,19 @@ def places_of(text, count):
         if part == "..":
             step = places[-1] - places[-2] if len(places) > 1 else 1
             if not places or step < 1:
-                raise ValueError("before '..' stand one place or two that grow")
+                raise ValueError("before '..' come one place or two that grow")
             places += [*range(places[-1] + step, count, step), count - 1]
         elif ".." in part:
             first, last = map(int, part.split(".."))
             places += range(first, last + 1)
         else:
             places.append(int(part))
-    # Places behind the last frame are left aside, as a step that doesn't meet it is.
+    # Places after the last frame are left aside, as a step that doesn't meet it is.
     return sorted({place for place in places if 0 <= place < count})
 
 
 def chosen(frames, asked, no_shifts):
-    """Places and frames to be drawn. Where moves in between are left out, three points stand in the caption."""
+    """Places and frames to be drawn. Where moves in between are left out, three points are in the caption."""
     places = places_of(asked, len(frames)) if asked else list(range(len(frames)))
     if no_shifts:
         places = [place for place in places if not frames[place].caption.startswith("shift") or place == len(frames) - 1]
@@ -268,13 +268,13 @@ def draw(what: Any, path: Union[str, "os.PathLike[str]", None] = None, *, marks:
          colours: Optional[List[int]] = None, by: Any = None) -> str:
     """An SVG picture of a diagram, or of a Certificate: of `equal` a frame for each move, else both diagrams. What other calls take for a
     diagram is taken here too. With a quandle `by` and `colours` each strand of a diagram has its colour, along the moves too. `marks` writes the
-    marks X and O, `cell` is the side of a cell, 8 to 200, `across` how many frames stand in a line, and `no_shifts` leaves out the frames
-    behind shifts. Where a path is given the picture is written there, whole or not at all. Raises NoFile, and BadText where the colours are
+    marks X and O, `cell` is the side of a cell, 8 to 200, `across` how many frames are in a line, and `no_shifts` leaves out the frames
+    after shifts. Where a path is given the picture is written there, whole or not at all. Raises NoFile, and BadText where the colours are
     no colouring."""
     from .given import diagram
     from .jobs import quandle
     if not isinstance(cell, int) or not isinstance(across, int) or not 8 <= cell <= 200 or across < 1:
-        raise BadText("a cell is 8 to 200, and at least one frame stands in a line")
+        raise BadText("a cell is 8 to 200, and at least one frame is in a line")
     if (by is None) != (colours is None):
         raise BadText("a quandle and colours go together")
     if isinstance(what, certificates.Certificate) and not what.is_equal:

@@ -71,7 +71,7 @@ class Wide(Fault):
 
 
 class Failed(Fault):
-    """The program ended without an answer: reading or writing failed, memory was wanting, or a signal ended it. `status` tells which."""
+    """The program ended without an answer: reading or writing failed, memory ran out, or a signal ended it. `status` says which."""
 
     def __init__(self, message: str, status: int) -> None:
         super().__init__(message)

@@ -1,8 +1,8 @@
 """Gauss codes of other programs: rows of a planar diagram code made of them.
 
 A Gauss code numbers the crossings, and lists for each component those that it passes, in order. A negative number is a passage under, as
-KnotInfo, KnotTheory and Regina have it. Such a code doesn't tell a diagram from its mirror image, and so it doesn't matter which passages
-the sign means. With the sign of each crossing, as Sage and the job `code` of knot write it, it does.
+KnotInfo, KnotTheory and Regina have it. Such a code is also that of the mirror image, so it doesn't matter whether a minus is a passage
+under or over. It matters if the code also has the sign of each crossing, as Sage and the job `code` of knot write it.
 """
 from typing import Dict, List, Sequence, Tuple
 
@@ -18,7 +18,7 @@ def passages_of(components: Sequence[Sequence[int]]) -> List[List[Passed]]:
     seen: Dict[int, List[int]] = {}
     for number in (number for component in components for number in component):
         if not number:
-            raise BadCode("a Gauss code numbers crossings from 1, and 0 stands in it")
+            raise BadCode("a Gauss code numbers crossings from 1, and it has 0")
         seen.setdefault(abs(number), []).append(number)
     for crossing, numbers in sorted(seen.items()):
         if len(numbers) != 2:

@@ -139,7 +139,7 @@ def problem_text(first: Diagram, second: Diagram, quandles: Quandles = ()) -> st
 def seek(first: DiagramLike, second: DiagramLike, quandles: Quandles = (), *, weights: Optional[Sequence[str]] = None, seed: Optional[int] = None,
          steps: Optional[int] = None, room: Optional[int] = None, workers: Optional[int] = None, timeout: Optional[float] = None) -> Optional[Certificate]:
     """Seeks evidence by numbers, by quandles, those given first, and by random walks. The certificate, or None where nothing was found, which
-    says nothing of the two. `weights` names files of quandles with cocycles; None stands for the list of the tree or of the prefix, () for none.
+    says nothing of the two. `weights` names files of quandles with cocycles; None means the list of the tree or of the prefix, () none.
     The options are those of the program `seek`; raises TimedOut after `timeout` seconds."""
     first, second = diagram_given(first), diagram_given(second)
     words = [*weights_words(weights), *options_of(seed=seed, steps=steps, room=room, workers=workers)]
@@ -150,7 +150,7 @@ def seek(first: DiagramLike, second: DiagramLike, quandles: Quandles = (), *, we
 def decide(first: DiagramLike, second: DiagramLike, quandles: Quandles = (), *, budget: Optional[int] = None, spare: Optional[int] = None,
            workers: Optional[int] = None, timeout: Optional[float] = None) -> Union[Certificate, Unknown]:
     """Searches in order, by `knot decide`: a certificate, or an Unknown that says how far the search went. Without quandles the built-in
-    list stands. The options are those of the job; raises TimedOut after `timeout` seconds."""
+    list is used. The options are those of the job; raises TimedOut after `timeout` seconds."""
     first, second = diagram_given(first), diagram_given(second)
     words = ["decide", *options_of(budget=budget, spare=spare, workers=workers)]
     ran = answered("knot", words, problem_text(first, second, quandles), also=(1,), timeout=timeout)
@@ -204,7 +204,7 @@ class Numbers(NamedTuple):
 
 def numbers(diagram: DiagramLike, *blocks: Union[QuandleLike, Tuple[QuandleLike, Union[Cocycle, ShadowCocycle]]]) -> List[Numbers]:
     """How many colourings, by `knot numbers`: each block is a quandle, or a quandle and a cocycle of it in a tuple, or the name of a ready
-    quandle with its cocycle, as "T5"; without a block the built-in list stands. Raises NoJob where the program is older than the job `numbers`."""
+    quandle with its cocycle, as "T5"; without a block the built-in list is used. Raises NoJob where the program is older than the job `numbers`."""
     text = diagram_text(diagram_given(diagram))
     for block in blocks:
         if isinstance(block, str) and ready_file(block):

@@ -2,7 +2,7 @@
 
 A block is a quandle, and perhaps a cocycle of it. Its entry in a row has one number, or with a cocycle mod k one for each weight from 0 to
 k − 1; or it is None where the quandle is too large for the diagram, which says nothing of the knot. The text of a row has `/` between
-entries. An entry that the unknot has too is left empty, a None is `?`, and noughts at the end are left out.
+entries. There an entry that the unknot has too is empty, a None is `?`, and an entry's zeros at its end are left out.
 """
 from typing import List, NamedTuple, Optional, Sequence, Tuple
 
@@ -39,7 +39,7 @@ class Block(NamedTuple):
 
 
 def blocks_of(text: str) -> List[Block]:
-    """What the blocks of a list are, by their first lines. The tables behind them aren't looked at. Raises BadText."""
+    """What the blocks of a list are, by their first lines. The tables after them aren't looked at. Raises BadText."""
     lines, found = Lines(text), []
     while lines.peek():
         line, tokens = lines.take("a quandle")
@@ -127,7 +127,7 @@ def counts_of_sum(first: Counts, second: Counts, blocks: Sequence[Block]) -> Cou
 
 
 def may_be_one(first: Sequence[Optional[object]], second: Sequence[Optional[object]]) -> bool:
-    """Whether no entry tells two rows apart, or two lists of counts."""
+    """Whether no entry distinguishes two rows, or two lists of counts."""
     return all(one is None or other is None or one == other for one, other in zip(first, second))
 
 

@@ -38,7 +38,7 @@ class Turn(NamedTuple):
 
     @property
     def words(self) -> str:
-        """What stands behind a name."""
+        """What is after a name."""
         return " mirrored" * self.is_mirrored + " reversed" * self.is_reversed
 
     def of(self, grid: Grid) -> Grid:
@@ -183,7 +183,7 @@ def read_knots(path: str) -> Dict[str, TableKnot]:
     for line, row in records(path, text_in(path), ("name", "crossings", "arc_notation")):
         name = row["name"]
         if not name or name in found:
-            raise TableError(f"{path}:{line}: " + (f"'{name}' stands there twice" if name else "the row has no name"))
+            raise TableError(f"{path}:{line}: " + (f"'{name}' is there twice" if name else "the row has no name"))
         if not re.fullmatch("[0-9]{1,3}", row["crossings"]):
             raise TableError(f"{path}:{line}: '{row['crossings'][:20]}' is no number of crossings")
         same, different = known.get(name, ((), ()))
@@ -284,7 +284,7 @@ class KnotTable:
         return opposite(row, self.blocks) if turn.is_reversed else row
 
     def candidates(self, row: Row) -> List[Parts]:
-        """The unknot, the knots of the table and the sums of some, in this order, as far as a row doesn't tell them from its own."""
+        """The unknot, the knots of the table and the sums of some, in this order, as far as a row doesn't distinguish them from its own."""
         unknot: List[Parts] = [()] if may_be_one(row, [block.unknot for block in self.blocks]) else []
         return [*unknot, *self.prime_candidates(row), *self.sum_candidates(row)]
 

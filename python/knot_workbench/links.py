@@ -34,7 +34,7 @@ def count_by(program: str, link: Any, call: str) -> int:
     try:
         return int(getattr(link, call)())
     except Exception as error:  # (whatever the other program raises)
-        raise BadCode(f"the link of {program} doesn't tell its components: {type(error).__name__}: {error}") from None
+        raise BadCode(f"the link of {program} doesn't give its components: {type(error).__name__}: {error}") from None
 
 
 def code_of_sage(link: Any) -> RowsAndLoops:

@@ -1,4 +1,4 @@
-"""Pages of certificates: one HTML file each, which stands alone and is opened in any browser. tools/show.py is the command.
+"""Pages of certificates: one HTML file each, which needs no other and is opened in any browser. tools/show.py is the command.
 
 Each move is made and each listed colouring is tried here, but only `knot check` rules on a certificate.
 """
@@ -18,12 +18,12 @@ HERE = os.path.dirname(os.path.realpath(__file__))
 
 # A page of so many frames has some megabytes, which browsers still take.
 MOST_FRAMES = 20_000
-# So many lines of a list of colourings stand in the page at most.
+# So many lines of a list of colourings are in the page at most.
 MOST_LINES = 65_536
 
 
 class Choices(NamedTuple):
-    """What a page is made with: the name of a quandle for the colours along moves, or none of them; the frames, and whether those behind
+    """What a page is made with: the name of a quandle for the colours along moves, or none of them; the frames, and whether those after
     shifts are left out."""
 
     quandle: Optional[str] = None
@@ -99,7 +99,7 @@ def refuse_alike(verdict):
 def walk_of(lines, diagram, choices):
     """The page of a diagram and moves, perhaps with a quandle and colours."""
     if lines.peek() != "moves":
-        raise BadText("behind a diagram moves or a second diagram are due", lines.take("a second diagram")[0])
+        raise BadText("after a diagram moves or a second diagram are due", lines.take("a second diagram")[0])
     moves, grid = read_moves(lines), grid_of(diagram)
     quandle = colours = None
     if lines.peek() == "quandle":
@@ -309,7 +309,7 @@ def walk_section(page):
     buttons = "".join(f'<button type="button" id="{name}" title="{title}" aria-label="{title}">{sign}</button>' for name, title, sign in (
         ("first", "First frame (Home)", "|&lt;"), ("back", "One back (left arrow)", "&lt;"), ("play", "Play or pause (space bar)", "Play"),
         ("on", "One on (right arrow)", "&gt;"), ("last", "Last frame (End)", "&gt;|")))
-    return (f'<section aria-labelledby="moves-head"><h2 id="moves-head">The moves</h2><noscript><p>The slider needs scripts; all moves stand below.</p></noscript>'
+    return (f'<section aria-labelledby="moves-head"><h2 id="moves-head">The moves</h2><noscript><p>The slider needs scripts; all moves are below.</p></noscript>'
             f'<div class="needs"><div class="walk"><svg id="walk" role="img" aria-labelledby="now"></svg></div>'
             f'<p id="now" class="said" aria-live="polite"></p><label>Frame<input type="range" id="frame" min="0" max="{last}" value="0"></label>'
             f'<div class="buttons">{buttons}</div></div>'
@@ -341,7 +341,7 @@ def page_text(page, title, checked, text):
     if page.frames:
         parts.append(walk_section(page))
         if page.quandle:
-            parts.append(f"<p>The colours are a colouring by the quandle {escape(page.quandle.name)}, carried along the moves; their numbers stand below "
+            parts.append(f"<p>The colours are a colouring by the quandle {escape(page.quandle.name)}, carried along the moves; their numbers are below "
                          "the columns.</p>")
     if page.quandle:
         parts.append(table_of(page.quandle.over, f"The quandle {escape(page.quandle.name)}: x ▷ y, line x and column y", "▷"))
@@ -391,7 +391,7 @@ def page(of: Union[Certificate, str], title: Optional[str] = None, *, quandle: O
 
     `title`      the page's title
     `quandle`    the name of the quandle whose colours are carried along moves; `plain` leaves colours out
-    `frames`     only these frames, counted from 0: as "0,5,9" or "3..7" or "0,10,.."; `no_shifts` leaves out those behind shifts
+    `frames`     only these frames, counted from 0: as "0,5,9" or "3..7" or "0,10,.."; `no_shifts` leaves out those after shifts
     `check`      has `knot check` rule on it first, and the page says so
 
     Raises BadText where it can't be shown, NoJob where `frames` names none or `check` can't be asked, and with `check` Rejected.

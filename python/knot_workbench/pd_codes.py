@@ -1,13 +1,12 @@
 """Planar diagram codes and DT codes of other programs, as lists of numbers.
 
-A planar diagram (PD) code has a row [i, j, k, l] for each crossing: its four edges counterclockwise, from the one on which the strand
-below comes. KnotTheory, KnotInfo, SnapPy and Regina list them so; Sage lists them clockwise, [i, l, k, j].
+A planar diagram (PD) code has a row [i, j, k, l] for each crossing: its four edges counterclockwise, from the one on which the lower
+strand comes in. KnotTheory, KnotInfo, SnapPy and Regina list them so; Sage lists them clockwise, [i, l, k, j].
 
 A DT code numbers the passages of a diagram 1, 2, 3 and so on along its components, such that each crossing has an odd number and an even
-one. It lists the even numbers by their odd ones, with a minus where the strands lie otherwise than in an alternating diagram. It doesn't
-tell a diagram from its mirror image. A PD code of it is found as Dehn found which words are those of curves in the plane: the crossings are
-smoothed so that one closed curve is left, which touches itself at each of them from inside or outside, and touches that interlace lie on
-different sides.
+one. It lists the even numbers by their odd ones, with a minus where the strands lie otherwise than in an alternating diagram. It is
+also that of the mirror image. To find its PD code, all crossings are smoothed so that one closed curve is left, which touches itself where the
+crossings were (Dehn's method). Two touches that interlace along the curve are on different sides of it, one inside and one outside.
 """
 from collections import namedtuple
 

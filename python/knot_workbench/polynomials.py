@@ -9,7 +9,7 @@ from .given import diagram as diagram_given
 from .identifying import components_of
 from .signatures import signature
 
-# As many columns may stand side by side in a row where the Jones polynomial is worked out: the work grows fourfold with two more.
+# As many columns may be side by side in a row where the Jones polynomial is worked out: the work grows fourfold with two more.
 MOST_OPEN = 16
 
 # A Laurent polynomial in A: coefficients by powers.
@@ -57,7 +57,7 @@ def invariants(of: Any) -> Invariants:
 
 
 def text_of(terms: Any) -> str:
-    """A sum of coefficients times powers, which are told by twice their exponents."""
+    """A sum of coefficients times powers, which are given by twice their exponents."""
     text = ""
     for twice, coefficient in terms:
         if coefficient:
@@ -121,7 +121,7 @@ def interpolated(places: Sequence[int], values: Sequence[int]) -> List[int]:
 # The Jones polynomial: Kauffman's bracket, row by row from below
 
 def jones_polynomial(grid: Grid) -> Optional[Tuple[Tuple[int, int], ...]]:
-    """Pairs of twice a power and its coefficient; None where too many columns stand side by side."""
+    """Pairs of twice a power and its coefficient; None where too many columns are side by side."""
     size = len(grid.xs)
     if max(sum(covers(grid, column, row) for column in range(size)) + 2 for row in range(size)) > MOST_OPEN:
         return None

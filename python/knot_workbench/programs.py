@@ -3,7 +3,8 @@ import os
 import re
 import shutil
 import subprocess
-from typing import Dict, List, NamedTuple, Optional, Sequence
+import threading
+from typing import Dict, List, NamedTuple, Optional, Sequence, Set
 
 from .faults import Failed, Fault, Malformed, NoJob, NoProgram, OverLimit, Rejected, TimedOut
 
@@ -13,6 +14,11 @@ NAMES = ("knot", "seek")
 HERE = os.path.dirname(os.path.realpath(__file__))
 
 _given: Dict[str, str] = {}
+
+# The programs that run, and whether `end_calls` was called.
+_running: "Set[subprocess.Popen[bytes]]" = set()
+_ended = threading.Event()
+_lock = threading.Lock()
 
 
 class Ran(NamedTuple):
@@ -74,12 +80,31 @@ def run(name: str, words: Sequence[str], text: str, timeout: Optional[float] = N
     if timeout is not None and not isinstance(timeout, (int, float)):
         raise NoJob(f"timeout takes a number of seconds, and {timeout!r:.30} is none")
     try:
-        done = subprocess.run([path, *words], input=text.encode(), stdout=subprocess.PIPE, stderr=subprocess.PIPE, timeout=timeout, check=False)
+        with subprocess.Popen([path, *words], stdin=subprocess.PIPE, stdout=subprocess.PIPE, stderr=subprocess.PIPE) as process:
+            with _lock:
+                _running.add(process)
+            try:
+                if _ended.is_set():
+                    process.kill()
+                body, told = process.communicate(text.encode(), timeout)
+            finally:
+                with _lock:
+                    _running.discard(process)
+                if process.returncode is None:
+                    process.kill()
     except subprocess.TimeoutExpired:
         raise TimedOut(f"{name} {' '.join(words)}: ended after {timeout:g} seconds") from None
     except OSError as error:
         raise NoProgram(f"{path}: {error.strerror}") from None
-    return Ran(done.returncode, done.stdout.decode("utf-8", "replace"), done.stderr.decode("utf-8", "replace"))
+    return Ran(process.returncode, body.decode("utf-8", "replace"), told.decode("utf-8", "replace"))
+
+
+def end_calls() -> None:
+    """Ends the programs that run for other threads, and each that they start later. Their calls raise Failed."""
+    _ended.set()
+    with _lock:
+        for process in _running:
+            process.kill()
 
 
 def answered(name: str, words: Sequence[str], text: str, also: Sequence[int] = (), timeout: Optional[float] = None) -> Ran:
@@ -105,6 +130,6 @@ def fault_of(name: str, words: Sequence[str], ran: Ran) -> Fault:
         return OverLimit(reason or "a limit is exceeded", re.sub("^limit ", "", said) or (line[0] if line else ""))
     if ran.status == 8:
         return Rejected(re.sub("^rejected ", "", said))
-    why = {5: "reading failed", 6: "writing failed", 7: "memory was wanting", 10: "it got no words that can be read", 127: "it could not be built"}
+    why = {5: "reading failed", 6: "writing failed", 7: "memory ran out", 10: "it got no words that can be read", 127: "it could not be built"}
     ended = f"ended by signal {-ran.status}" if ran.status < 0 else f"ended with status {ran.status}, {why.get(ran.status, 'which is none of its own')}"
     return Failed(f"{name} {' '.join(words)}: {ended}" + (f": {reason}" if reason else ""), ran.status)

@@ -23,9 +23,9 @@ TOLD, FAULTS = (0, 1, 3), 3
 class Census(NamedTuple):
     """Diagrams in classes.
 
-    `classes`    by the name of a class, which is that of its first diagram, its diagrams by their names: how each stands there, as "mirrored",
+    `classes`    by the name of a class, which is that of its first diagram, its diagrams by their names: how each is there, as "mirrored",
                  or "" where it is the same as the first
-    `undecided`  pairs of classes that no evidence tells apart
+    `undecided`  pairs of classes that no evidence distinguishes
     `faults`     of diagrams that can't be read, and of answers that didn't come, a line each
     `folder`     where the certificates and classes.html are
     """
@@ -38,7 +38,7 @@ class Census(NamedTuple):
 
 def census(diagrams: Union[Mapping[str, Any], str, "os.PathLike[str]"], folder: Union[str, "os.PathLike[str]"], *, mirror: bool = False,
            reverse: bool = False, processes: Optional[int] = None, plan: Optional[str] = None) -> Census:
-    """Sorts diagrams into classes, with a certificate for all that is said, which stand in `folder`: called again, it goes on where it stopped.
+    """Sorts diagrams into classes, with a certificate for all that is said, which are in `folder`: called again, it goes on where it stopped.
 
     `diagrams`   a folder of files NAME.txt with one diagram each; or diagrams by their names, which are put into `folder`/given
     `mirror`     a diagram and its mirror image are in one class, and with `reverse` one that is run through backwards

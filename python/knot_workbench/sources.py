@@ -37,7 +37,7 @@ def from_table(path: Union[str, "os.PathLike[str]"], diagram: Optional[str] = No
     one counts that has diagrams by its title. A name is one of the table of prime knots to twelve crossings, as "10_132", "11n34",
     "3_1 mirrored" or "3_1 # 4_1": what is neither a path nor named with a column is taken for one.
 
-    What an entry is, its column's title or its brackets tell, or `reads`: "braid", "PD" or "DT". Codes are drawn by `knot grid`.
+    What an entry is, its column's title, its brackets or `reads` decide: "braid", "PD" or "DT". Codes are drawn by `knot grid`.
     Columns are named by their titles, or by their numbers from 1; the other words are those of tools/from_table.py. A row that can't be had
     is put into `faults` and left out where this list is given, and else raised as an EntryError. Raises TableError where the table as a whole
     can't be read, or has no knot of this name."""

@@ -3,7 +3,7 @@ from .diagrams import Grid
 
 
 def shifted_to(grid: Grid, column: int, row: int, kind: str) -> Grid:
-    """The grid shifted such that an O (kind "o") or an X (kind "x") stands in this column and row."""
+    """The grid shifted such that an O (kind "o") or an X (kind "x") is in this column and row."""
     size = len(grid.xs)
     marks = grid.os if kind == "o" else grid.xs
     across, up = -column % size, (row - marks[0]) % size

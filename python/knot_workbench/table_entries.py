@@ -1,7 +1,7 @@
 """Entries of a table of knots as diagrams: braid words, arc presentations, and PD and DT codes. Gauss codes are refused.
 
 A Gauss code or a DT code of a knot is a list of whole numbers, as a braid word is, and would be read as the word of another link. So a list
-is refused where its numbers are those of a code and hardly those of a word, unless the title of its column or `--as` tells what it is:
+is refused where its numbers are those of a code and hardly those of a word, unless the title of its column or `--as` says what it is:
 
 - of a DT code: 2, 4, .. 2n, each once, with either sign, and n at least 3. As a word that is an unlink, since no two of its crossings share a
   strand. It isn't enough that all numbers are even: {2,2,2} on four strands or three is the trefoil with strands beside it.
@@ -29,7 +29,7 @@ MAX_DEPTH = 3
 OPENING = {"{": "}", "[": "]", "(": ")"}
 TOKEN = re.compile(r"\s*(?:(?P<number>[+-]?[0-9]+)|(?P<mark>[][{}(),;]))")
 
-# The words with which some programs begin a code, and those that stand in it.
+# The words with which some programs begin a code, and those that are in it.
 CODE_WORDS = (("PD", re.compile(r"\s*(?:PD|X[pm]?)\s*[\[(]")), ("DT", re.compile(r"\s*DT")), ("Gauss", re.compile(r"\s*[A-Z]*Gauss", re.I)))
 WORDS_IN = {"PD": re.compile(r"(?:\bPD|\bX[pm]?)\s*(?=[\[(])"), "DT": re.compile(r"\bDT(?:Code)?\s*:?\s*")}
 
@@ -56,7 +56,7 @@ Read = collections.namedtuple("Read", "text remarks warnings")
 
 
 def tokens_of(text):
-    """Numbers and marks of an entry, and where each stands."""
+    """Numbers and marks of an entry, and where each is."""
     place = 0
     end = len(text.rstrip())
     while place < end:
@@ -80,12 +80,12 @@ def nested(text):
         raise EntryError("the entry does not begin with a bracket")
     value, place = nested_at(tokens, 0, 1)
     if place < len(tokens):
-        raise EntryError(f"'{tokens[place]}' stands behind the last bracket")
+        raise EntryError(f"'{tokens[place]}' comes after the last bracket")
     return value
 
 
 def nested_at(tokens, place, depth):
-    """The list that opens at this place, and the place behind it."""
+    """The list that opens at this place, and the place after it."""
     if depth > MAX_DEPTH:
         raise EntryError("the entry has too many brackets within brackets")
     closing = OPENING[tokens[place]]
@@ -96,11 +96,11 @@ def nested_at(tokens, place, depth):
             raise EntryError(f"the bracket '{closing}' is missing at the end")
         if tokens[place] == closing:
             if items and tokens[place - 1] in (",", ";"):
-                raise EntryError("a comma stands before a closing bracket")
+                raise EntryError("there is a comma before a closing bracket")
             return items, place + 1
         if items:
             if tokens[place] not in (",", ";"):
-                raise EntryError(f"a comma is due where '{tokens[place]}' stands")
+                raise EntryError(f"a comma is due, and not '{tokens[place]}'")
             place += 1
             if place >= len(tokens) or tokens[place] == closing:
                 continue
@@ -111,7 +111,7 @@ def nested_at(tokens, place, depth):
             item, place = nested_at(tokens, place, depth + 1)
             items.append(item)
         else:
-            raise EntryError(f"'{tokens[place]}' stands where a number or a bracket is due")
+            raise EntryError(f"a number or a bracket is due, and not '{tokens[place]}'")
 
 
 def are_numbers(items):
@@ -127,7 +127,7 @@ def are_pairs(items):
 def code_of(value):
     """The code of crossings that a nested list is by its numbers, "PD", "DT" or "Gauss", or None.
 
-    A list of numbers alone must be sure to be no braid word, as the head of this file tells. Lists in a list can be no word.
+    A list of numbers alone must be sure to be no braid word, as the head of this file says. Lists in a list can be no word.
     """
     if are_numbers(value):
         return code_of_numbers(value, CODE_LEAST)
@@ -154,7 +154,7 @@ def code_of_numbers(numbers, least):
 
 
 def diagram_of(entry, strands, conventions):
-    """The diagram that an entry stands for, a Read; `strands` is what a column of strands says, or None."""
+    """The diagram that an entry means, a Read; `strands` is what a column of strands says, or None."""
     kind = next((code for code, beginning in CODE_WORDS if beginning.match(entry)), None)
     if kind == "Gauss":
         raise EntryError(f"the entry begins as a Gauss code, which is not read; {INSTEAD}")
@@ -203,7 +203,7 @@ def pd_of(rows, conventions):
         if min(row) < 0:
             raise EntryError(f"row {place} has the edge {min(row)}, and the names of edges are 0 or more")
     if not rows:
-        raise EntryError("a PD code without rows doesn't tell how many unknots it has")
+        raise EntryError("a PD code without rows doesn't say how many unknots it has")
     return drawn(rows, [OF_PD], conventions)
 
 
@@ -294,7 +294,7 @@ def arcs_of(pairs, conventions):
 
 
 def from_zero(pairs):
-    """The pairs with numbers from 0. They may be written from 1, as is usual, or from 0: each number stands twice."""
+    """The pairs with numbers from 0. They may be written from 1, as is usual, or from 0: each number comes twice."""
     size = len(pairs)
     counts = {}
     for place, (tail, head) in enumerate(pairs, 1):
@@ -305,9 +305,9 @@ def from_zero(pairs):
     first = 0 if 0 in counts else 1
     for number in sorted(counts):
         if not first <= number < first + size:
-            raise EntryError(f"the number {number} stands in a pair, and {size} pairs have the numbers {first} to {first + size - 1}")
+            raise EntryError(f"the number {number} is in a pair, and {size} pairs have the numbers {first} to {first + size - 1}")
         if counts[number] != 2:
-            raise EntryError(f"the number {number} stands {counts[number]} times, and not twice")
+            raise EntryError(f"the number {number} comes {counts[number]} times, and not twice")
     missing = [number for number in range(first, first + size) if number not in counts]
     if missing:
         raise EntryError(f"the number {missing[0]} is missing")

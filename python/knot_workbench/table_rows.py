@@ -75,7 +75,7 @@ def code_of_title(title):
     """The code of crossings that a title says its column has, "PD", "DT" or "Gauss", or None."""
     if TITLE_OF_DIAGRAMS.search(title):
         return None
-    # A capital behind a small letter begins a word, as in GaussCode, and marks part words.
+    # A capital after a small letter begins a word, as in GaussCode, and marks part words.
     words = re.sub(r"(?<=[a-z])(?=[A-Z])|(?<=[A-Z])(?=[A-Z][a-z])|[_\W]+", " ", title)
     return next((code for code, known in TITLES_OF_CODES if known.search(words)), None)
 
@@ -128,7 +128,7 @@ class Table:
     def check_width(self, fields):
         """Refuses a row that has more fields or fewer than the header."""
         if len(fields) != self.width:
-            hint = "; a field with commas stands in quotes" if len(fields) > self.width else ""
+            hint = "; a field with commas needs quotes" if len(fields) > self.width else ""
             raise EntryError(f"the row has {len(fields)} fields, and the header {self.width}{hint}")
 
     def strands_of(self, fields):

@@ -80,7 +80,7 @@ def pairs_met(grid, quandle, colours):
 
 
 def all_met(grid, quandle, connected):
-    """What all colourings count, and how many colourings each stands for. Of a connected quandle each colour of the lowest row sees the same
+    """What all colourings count, and how many colourings each represents. Of a connected quandle each colour of the lowest row sees the same
     weights, since translations change a cocycle by a coboundary; so one colour is enough."""
     return [pairs_met(grid, quandle, colours) for colours in colourings(grid, quandle, 0 if connected else None)], len(quandle.over) if connected else 1
 

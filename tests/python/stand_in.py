@@ -1,7 +1,7 @@
 #!/usr/bin/env python3
 """Stands for knot and seek in tests of the module: the independent reader answers, or what variables say.
 
-STAND_IN_SAYS has a status, and behind a blank the text that is written, STAND_IN_TELLS what is said on standard error, and STAND_IN_NOTES
+STAND_IN_SAYS has a status, and after a blank the text that is written, STAND_IN_TELLS what is said on standard error, and STAND_IN_NOTES
 names a file that gets the words and the input. Without STAND_IN_SAYS a search has no answer here.
 """
 import os

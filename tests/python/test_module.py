@@ -286,7 +286,7 @@ class Faults(Case):
                 (2, "usage: knot JOB\n", "knot: --budget takes a whole number\n", kw.NoJob, "'code': --budget takes a whole number"),
                 (3, "malformed line 2\n", "knot: line 2: 7 is not a row\n", kw.Malformed, "line 2: 7 is not a row"),
                 (4, "limit bytes\n", "", kw.OverLimit, "limit bytes"), (5, "", "knot: reading failed: busy\n", kw.Failed, "ended with status 5, reading failed: "),
-                (7, "", "", kw.Failed, "memory was wanting"), (127, "", "knot: there is no program\n", kw.Failed, "could not be built"),
+                (7, "", "", kw.Failed, "memory ran out"), (127, "", "knot: there is no program\n", kw.Failed, "could not be built"),
                 (99, "", "", kw.Failed, "which is none of its own"), (0, "crossings 1\n", "", kw.BadAnswer, "knot code wrote a text of another form"),
                 (0, "", "", kw.BadAnswer, "'crossings N' is due")):
             with self.says(status, text, told):

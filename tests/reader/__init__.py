@@ -9,7 +9,7 @@ it brings are legal, lead to the second diagram and stay within the columns allo
 and for a few diagrams where another search, without any cunning, counts as many.
 
     lines.py      lines, tokens, numbers, limits, statuses
-    items.py      what stands in the texts, and the shape of each input
+    items.py      what is in the texts, and the shape of each input
     diagrams.py   grids, moves, colourings
     braids.py     closures, words of diagrams, steps between braids
     codes.py      crossing codes, linking numbers

@@ -42,7 +42,7 @@ def fixed_points(strands, letters, quandle):
 
 
 def acted(letters, quandle, colours):
-    """The colours behind a braid."""
+    """The colours after a braid."""
     colours = list(colours)
     for letter in letters:
         k = abs(letter) - 1
@@ -110,13 +110,13 @@ def shape_of_step(step, strands, letters):
 
 
 def room_for_step(step, strands, letters):
-    """Whether the closure behind a step is within the limits."""
+    """Whether the closure after a step is within the limits."""
     word, size = step[0], len(letters) + 2 * strands
     return size + {"insert": 2, "grow": 3}.get(word, 0) <= MAX_SIZE and (word != "grow" or strands < MAX_STRANDS)
 
 
 def after_step(step, strands, letters):
-    """The strands and letters behind a legal step."""
+    """The strands and letters after a legal step."""
     word, place = step[0], step[1] if len(step) > 1 else None
     if word == "grow":
         return strands + 1, [*letters, strands if place == b"plus" else -strands]

@@ -104,7 +104,7 @@ def traded(grid, place):
 
 
 def shifted(grid, by):
-    """The first columns put behind the others."""
+    """The first columns put after the others."""
     if not 0 < by < size_of(grid):
         raise Illegal("range")
     return tuple(marks[by:] + marks[:by] for marks in grid)
@@ -158,7 +158,7 @@ def destabilised(grid, column, row):
 
 @lru_cache(maxsize=65_536)
 def apply(grid, move):
-    """The grid behind a move; Illegal with its first fault."""
+    """The grid after a move; Illegal with its first fault."""
     name = move[0]
     if name == "stabilise":
         return stabilised(grid, *move[1:])
@@ -169,7 +169,7 @@ def apply(grid, move):
 
 
 def carried(grid, move, quandle, colours):
-    """The colours behind a legal move, by the list of docs/DEFINITIONS.md."""
+    """The colours after a legal move, by the list of docs/DEFINITIONS.md."""
     name, colours = move[0], list(colours)
     if name == "stabilise":
         return colours[:move[1] + 1] + colours[move[1]:]

@@ -95,7 +95,7 @@ def leads(rows, signs, end):
 
 
 def strand(end):
-    """The crossing whose sign tells whether the strand leaves by this end, None for a strand under, and whether the other way round."""
+    """The crossing whose sign says whether the strand leaves by this end, None for a strand under, and whether the other way round."""
     crossing, slot = end
     return (None if slot % 2 == 0 else crossing), slot in (0, 3)
 
@@ -171,7 +171,7 @@ def as_part(one, part, two, at):
 
 
 def are_renamed(one, two):
-    """Whether two codes, each of rows and signs, differ in names alone. Parts that are alike may stand for each other."""
+    """Whether two codes, each of rows and signs, differ in names alone. Parts that are alike may be exchanged."""
     left = set(range(len(two[0])))
     for part in parts_of(one[0]):
         found = next((becomes for at in sorted(left) if (becomes := as_part(one, part, two, at)) and left.issuperset(becomes.values())), None)

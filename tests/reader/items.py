@@ -1,4 +1,4 @@
-"""What stands in the texts, item by item, and the shape of each input."""
+"""What is in the texts, item by item, and the shape of each input."""
 import re
 from functools import lru_cache
 from math import gcd
@@ -47,7 +47,7 @@ def read_diagram(lines):
     return closure(*read_braid(lines)) if lines.begins_with(b"braid") else read_grid(lines)
 
 
-# How many numbers stand behind the name of a quandle.
+# How many numbers are after the name of a quandle.
 NAMES = {b"trivial": 1, b"dihedral": 1, b"tetrahedral": 0, b"alexander": 2, b"table": 1}
 
 
@@ -167,7 +167,7 @@ def move_of(tokens):
 
 
 def may_follow(before, move):
-    """Whether a move may stand in a tidy list directly behind another one."""
+    """Whether a move may be in a tidy list directly after another one."""
     return move[0] != "shift" or before[0] != "shift" or (before[1], move[1]) == ("columns", "rows")
 
 
@@ -198,7 +198,7 @@ def read_moves(lines):
     return read_move_lines(lines, read_count(lines, b"moves"))
 
 
-# The steps between braids that are told by a place alone.
+# The steps between braids that are named by a place alone.
 PLACED = (b"far", b"triple", b"cancel", b"turn")
 
 
@@ -256,7 +256,7 @@ def read_list(lines, size, order):
 
 
 def read_version(lines):
-    """2 behind the line `certificate 2`, and 1 where no such line stands."""
+    """2 after the line `certificate 2`, and 1 where no such line stands."""
     if not lines.begins_with(b"certificate"):
         return 1
     tokens = lines.due()
@@ -268,7 +268,7 @@ def read_version(lines):
 
 
 def read_verdict(lines, first, second):
-    """A verdict of either version: its word, and what stands behind it."""
+    """A verdict of either version: its word, and what is after it."""
     tidy = read_version(lines) == 2
     tokens = lines.due()
     if tokens[0] == b"equal":
@@ -310,7 +310,7 @@ def read_linked(lines):
 
 
 def read_evidence(lines):
-    """Evidence by numbers, behind the line `certificate 3`: its word, and what stands behind it."""
+    """Evidence by numbers, after the line `certificate 3`: its word, and what is after it."""
     lines.advance()
     if tuple(lines.due()) == (b"different", b"linking"):
         lines.advance()
@@ -331,7 +331,7 @@ def problem(lines):
 
 
 def read_block(lines, **of_name):
-    """A quandle, perhaps with a cocycle of either kind behind it."""
+    """A quandle, perhaps with a cocycle of either kind after it."""
     quandle = read_name(lines, b"quandle", **of_name)
     return quandle, read_any_cocycle(lines, quandle) if is_cocycle_next(lines) else None
 
@@ -376,7 +376,7 @@ def read_row(lines, classes):
 
 
 def read_table(lines):
-    """Blocks, classes, pairs of classes that are left open, and rows, behind the line `certificate 4`."""
+    """Blocks, classes, pairs of classes that are left open, and rows, after the line `certificate 4`."""
     lines.advance()
     blocks = [read_block(lines, largest=MAX_LARGE_ORDER) for _ in range(read_count(lines, b"blocks", MAX_QUANDLES))]
     classes = [read_class(lines, blocks) for _ in range(read_count(lines, b"classes"))]
@@ -432,7 +432,7 @@ def counted(lines, word, most):
 
 
 def read_crossings(lines):
-    """Rows of four names each, and their number where it is told."""
+    """Rows of four names each, and their number where it is reported."""
     due, rows = counted(lines, b"crossings", MAX_CROSSINGS), []
     while lines.tokens is not None and lines.tokens[0] not in (b"loops", b"gauss"):
         names = [token for token in lines.tokens if token not in (b"X", b"PD")]
@@ -525,7 +525,7 @@ def pair_and_weights(lines):
 
 
 def diagram_and_blocks(lines):
-    """A diagram, and any number of quandles, each perhaps with a cocycle behind it; the built-in list where there are none."""
+    """A diagram, and any number of quandles, each perhaps with a cocycle after it; the built-in list where there are none."""
     grid, blocks = read_diagram(lines), []
     while lines.begins_with(b"quandle"):
         blocks.append(read_block(lines, is_one_too_many=len(blocks) == MAX_QUANDLES, largest=MAX_LARGE_ORDER))

@@ -1,6 +1,6 @@
 """The jobs: what each answers, and the words that ask for them.
 
-A new job is a line in JOBS: its shape, its answer, and its limit of bytes. Its shape stands in items.py, its mathematics in a file of
+A new job is a line in JOBS: its shape, its answer, and its limit of bytes. Its shape is in items.py, its mathematics in a file of
 their own, and its answer here.
 """
 import re
@@ -21,7 +21,7 @@ USAGE_LINE = b"usage: knot JOB [--workers W] [--budget B] [--spare S] [--seed N]
 
 
 def answer_decide(options, first, second, quandles):
-    """`different` by the first quandle that tells apart, else what a search may find."""
+    """`different` by the first quandle that distinguishes, else what a search may find."""
     for quandle in quandles:
         if fits(first, quandle) and fits(second, quandle):
             lists = [colourings(first, quandle), colourings(second, quandle)]
@@ -143,7 +143,7 @@ def answer_linking(_options, first, second):
 
 
 def answer_weights(_options, first, second, quandle, modulus, values):
-    """How often each weight stands in the lists of two diagrams."""
+    """How often each weight is in the lists of two diagrams."""
     for which, grid in enumerate((first, second), 1):
         if not fits(grid, quandle):
             return Answer(DONE, f"wide {which} {bottoms(grid)}\n")
@@ -212,7 +212,7 @@ def value_of(name, spelling, with_equals_sign):
 
 
 def read_words(words):
-    """The job and the options that words ask for, which stand behind the program's name."""
+    """The job and the options that words ask for, which are after the program's name."""
     given, jobs, words = {}, [], list(words)
     while words:
         word = words.pop(0)

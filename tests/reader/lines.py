@@ -99,7 +99,7 @@ class Lines:
             self.over_limit()
 
     def content(self, holds):
-        """The line is malformed where its content does not hold, which is asked behind the limits."""
+        """The line is malformed where its content does not hold, which is asked after the limits."""
         if not holds:
             self.malformed()
 
@@ -119,7 +119,7 @@ def is_number(token):
 
 
 def is_letter(token):
-    """A number, perhaps behind a minus."""
+    """A number, perhaps after a minus."""
     return LETTER.match(token) is not None
 
 

@@ -140,7 +140,7 @@ def first_difference(given, own):
 
 
 def cause_of_numbers(first, second, quandle, cocycle, said):
-    """Why numbers of colourings do not tell two diagrams apart, or None."""
+    """Why numbers of colourings do not distinguish two diagrams, or None."""
     for which, (grid, (seeds, numbers)) in enumerate(zip((first, second), said), 1):
         outside = [seed for seed in seeds if seed >= size_of(grid)]
         if outside:
@@ -158,7 +158,7 @@ def cause_of_numbers(first, second, quandle, cocycle, said):
 
 
 def cause_of_linking(first, second, said):
-    """Why linking numbers do not tell two links apart, or None."""
+    """Why linking numbers do not distinguish two links, or None."""
     for which, (grid, (components, numbers)) in enumerate(zip((first, second), said), 1):
         if components != component_count(grid):
             return f"components {which}"

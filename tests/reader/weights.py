@@ -54,7 +54,7 @@ def by_formula(order):
 
 
 def region(grid, quandle, colours, outer, height, columns):
-    """The colour of the region between rows height - 1 and height, behind so many columns."""
+    """The colour of the region between rows height - 1 and height, after so many columns."""
     for column in range(columns):
         low, high = sorted((grid[0][column], grid[1][column]))
         if low < height <= high:

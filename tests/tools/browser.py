@@ -1,4 +1,4 @@
-"""Chromium without a window, led by its debugging pipe, for tests of pages that stand alone."""
+"""Chromium without a window, led by its debugging pipe, for tests of pages that need no other file."""
 import json
 import os
 import shutil

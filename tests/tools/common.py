@@ -32,7 +32,7 @@ def call(words, text="", **more):
 
 
 def default_signals():
-    """For a child that signals are sent to: it may be started where they are ignored, as by nohup or behind a shell's `&`."""
+    """For a child that signals are sent to: it may be started where they are ignored, as by nohup or after a shell's `&`."""
     for number in (signal.SIGINT, signal.SIGTERM, signal.SIGHUP):
         signal.signal(number, signal.SIG_DFL)
 

@@ -11,7 +11,7 @@ def is_apart(one, other):
 
 
 def exchanges(grid):
-    """The exchanges of a grid round the circle, each as moves, those round the end behind a shift."""
+    """The exchanges of a grid round the circle, each as moves, those round the end after a shift."""
     columns = list(zip(grid.xs, grid.os))
     rows = [(grid.xs.index(row), grid.os.index(row)) for row in range(grid.size)]
     for which, chords in (("columns", columns), ("rows", rows)):

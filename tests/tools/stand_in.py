@@ -5,7 +5,7 @@ knows nothing of knots.
 A line '# at B: S TEXT' has decide with the budget B end with status S and write TEXT, where ' / ' begins a new line.
 A line '# check: S TEXT' does the same for check, and '# seek: S TEXT' for seek, which without it finds nothing and says so.
 '# says: TEXT' says something on standard error first, '# sleep T' waits. 'calls: PATH' appends a line to this file for each call.
-Behind a '+' the line holds only where the input has the word 'quandle'.
+After a '+' the line holds only where the input has the word 'quandle'.
 """
 import os
 import re

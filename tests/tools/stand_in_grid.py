@@ -1,7 +1,7 @@
 #!/usr/bin/env python3
 """Stands for `knot grid` in tests of the scripts. It answers by the number of crossings, and draws nothing.
 
-Three crossings have the right trefoil of docs/GUIDE.md, other numbers that many and two columns. An edge that doesn't stand twice is
+Three crossings have the right trefoil of docs/GUIDE.md, other numbers that many and two columns. An edge that doesn't come twice is
 rejected; five crossings are no diagram, six are too many. CALLS names a file that gets the input of each call.
 """
 import os

@@ -17,7 +17,7 @@ from knot_workbench.knot_rows import blocks_of  # noqa: E402
 LIST = "# A comment.\nquandle dihedral 3\n# E4: a table.\nquandle table 4\n0 2 3 1\n3 1 0 2\n1 3 2 0\n2 0 1 3\nquandle dihedral 5\nshadow mochizuki\n"
 BLOCKS = blocks_of(LIST)
 
-# By these rows the first two knots aren't told apart, nor the third and the fourth, for which the last block is too wide. The third is told from its
+# By these rows the first two knots aren't distinguished, nor the third and the fourth, for which the last block is too wide. The third differs from its
 # reverse, and the fifth from its mirror image.
 ROWS = {"a": [((9,), (4,), (25, 0, 0, 0, 0))] * 2, "b": [((9,), (4,), (25, 0, 0, 0, 0))] * 2,
         "c": [((3,), (16,), (25, 50, 0, 0, 50)), ((3,), (16,), (25, 0, 50, 50, 0))], "d": [((3,), (16,), None)] * 2,

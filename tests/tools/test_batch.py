@@ -101,7 +101,7 @@ class StagesTest(BatchTest):
         self.problem("a", "# at 100: 0 equal 0")
         self.assertEqual(self.batch()[0], 0)
         self.assertEqual(self.read("certificates", "a.txt"), f"# calls: {self.calls}\n# at 100: 0 equal 0\nequal 0\n")
-        # The answer with its comments behind the problem does as well.
+        # The answer with its comments after the problem does as well.
         self.assertEqual([line for line in self.read("answers", "a.txt").splitlines() if not line.startswith("#")], ["equal 0"])
 
     def test_the_head_line_of_a_verdict_is_passed_over(self):
@@ -242,7 +242,7 @@ class FaultsTest(BatchTest):
         self.problem("d", "# at 100: 0 equal 0\n")
         status, out, errors = self.batch()
         self.assertEqual((status, out), (3, "4 problems: 1 equal, 1 unknown, 2 without an answer; 1 of 1 certificates accepted\n"))
-        for text in ("a.txt: stage first: no answer, status 7, there was no memory", "b.txt: stage first: no answer, ended by signal 9",
+        for text in ("a.txt: stage first: no answer, status 7, memory ran out", "b.txt: stage first: no answer, ended by signal 9",
                      "c.txt: stage second: no answer, status 6, writing failed", "a.txt: no answer\n", "b.txt: no answer\n",
                      "c.txt: no answer at stage second\n"):
             self.assertIn(text, errors)
@@ -269,7 +269,7 @@ class FaultsTest(BatchTest):
         status, out, errors = self.batch()
         self.assertEqual((status, out), (3, "2 problems: 2 equal; 0 of 2 certificates accepted\n"))
         self.assertIn("a.txt: the certificate is not accepted: rejected otherend", errors)
-        self.assertIn("the checker gave no ruling, status 7, there was no memory", errors)
+        self.assertIn("the checker gave no ruling, status 7, memory ran out", errors)
         self.assertEqual(self.rows()["b"]["check"], "none")
 
     def test_a_problem_that_changed_is_run_anew(self):
@@ -453,7 +453,7 @@ class ParallelTest(BatchTest):
         self.problem("c", "# at 100: 7\n")
         status, out, errors = self.batch("--with", "parallel")
         self.assertEqual((status, out), (3, "3 problems: 2 equal, 1 without an answer; 2 of 2 certificates accepted\n"), errors)
-        self.assertIn("c.txt: stage first: no answer, status 7, there was no memory", errors)
+        self.assertIn("c.txt: stage first: no answer, status 7, memory ran out", errors)
         log = [line.split("\t") for line in self.read("jobs.log").splitlines()]
         self.assertEqual({len(line) for line in log}, {9})
         self.assertEqual(sorted(line[6] for line in log), ["0", "0", "0", "3"])

@@ -75,7 +75,7 @@ class HostsTest(BatchTest):
         self.assertEqual((process.returncode, out), (0, "30 problems: 30 answered\n"), errors)
         self.assertEqual(errors.count("left out"), 1, errors)
         self.assertIn(f"batch.py: {self.ssh} two: left out: ssh failed 3 times in a row; what it had is run elsewhere\n", errors)
-        # What ssh says stands there once, however many calls it failed.
+        # What ssh says is there once, however many calls it failed.
         self.assertLessEqual(errors.count("ssh: connect to host two"), 2, errors)
 
     def test_where_no_host_is_left_the_call_ends(self):

@@ -57,12 +57,12 @@ class SeekTest(BatchTest):
 
     def test_what_seek_refuses_is_named_with_its_reason(self):
         self.problem("a", "# seek: 3\n# says: standard input, line 3: 7 is not a row\n")
-        self.problem("b", "# seek: 7\n# says: memory was wanting\n")
+        self.problem("b", "# seek: 7\n# says: memory ran out\n")
         self.put("stages.txt", "only\n")
         status, _, errors = self.batch("--job", "seek")
         self.assertEqual(status, 3)
         self.assertIn("a.txt: refused at stage only: standard input, line 3: 7 is not a row\n", errors)
-        self.assertIn("b.txt: stage only: no answer, status 7, there was no memory: memory was wanting\n", errors)
+        self.assertIn("b.txt: stage only: no answer, status 7, memory ran out: memory ran out\n", errors)
 
     def test_no_trial_looks_like_an_error(self):
         self.put("stages.txt", SEEKS)
@@ -117,10 +117,10 @@ class SeekTest(BatchTest):
     def test_the_same_under_parallel(self):
         self.put("stages.txt", SEEKS)
         self.problem("a", "# seek: 0 equal 3\n")
-        self.problem("b", "# seek: 7\n# says: memory was wanting\n")
+        self.problem("b", "# seek: 7\n# says: memory ran out\n")
         status, out, errors = self.batch("--with", "parallel")
         self.assertEqual((status, out), (3, "2 problems: 1 equal, 1 unknown; 1 of 1 certificates accepted\n"), errors)
-        self.assertIn("b.txt: stage seek: no answer, status 7, there was no memory: memory was wanting", errors)
+        self.assertIn("b.txt: stage seek: no answer, status 7, memory ran out: memory ran out", errors)
 
 
 class NamesTest(BatchTest):

@@ -138,7 +138,7 @@ class SortTest(CensusTest):
         self.rows_of_the_certificate()
 
     def rows_of_the_certificate(self):
-        """Each diagram stands in the certificate as it was given, in a class of its own class alone; only those that linking numbers tell apart are
+        """Each diagram is in the certificate as it was given, in a class of its own class alone; only those that linking numbers distinguish are
         left open."""
         with open(os.path.join(self.census, "certificate-1.txt"), "rb") as file:
             _, _, left, told = read_table(reader.Lines(file.read()))
@@ -175,7 +175,7 @@ class SortTest(CensusTest):
         self.assertEqual({name: row[0] for name, row in found.items()}, {"a": "a", "b": "a", "c": "a", "d": "a", "e": "e", "f": "f", "g": "a"})
         self.assertIn("mirror image", found["c"][1])
         self.assertEqual({row[2] for row in found.values()}, {"", "accepted"})
-        # Two classes are apart where each turn is told apart.
+        # Two classes are apart where each turn is distinguished.
         self.assertEqual([row["as"] for row in self.rows("apart.csv") if (row["first"], row["second"]) == ("a", "e")],
                          ["", "mirror image", "reverse", "reversed mirror image"])
 
@@ -311,7 +311,7 @@ class Elements(html.parser.HTMLParser):
             raise AssertionError(tag)
 
 
-# The classes as they stand on the page, by the names that are shown.
+# The classes as they are on the page, by the names that are shown.
 SHOWN = '[...document.querySelectorAll("tbody tr")].filter(row => !row.hidden).map(row => row.querySelector("summary").textContent).join(" ")'
 FOCUSED = "document.activeElement.textContent"
 STATUS = 'document.getElementById("status").textContent'

@@ -69,7 +69,7 @@ def example_answers():
 
 
 def answered_in_place(job, status, out):
-    """What stands in place of Runner.run: it gives one answer to this job, and asks the stand-in for all others."""
+    """What is in place of Runner.run: it gives one answer to this job, and asks the stand-in for all others."""
     def run(_, call, given, is_shown=False):
         """The answer of a call; of an empty input the line that is due is missing."""
         words, text = call[1:], given.decode()
@@ -100,7 +100,7 @@ class Here:
 
 
 def called(_, path, words, text):
-    """What stands in place of a worker's call of a program."""
+    """What is in place of a worker's call of a program."""
     found = batch_programs.Runner.run(None, [path, *words], text.encode())
     return found.status, found.body.decode()
 
@@ -197,7 +197,7 @@ class CensusReads(AnswersTest):
             with self.subTest(name):
                 status, errors = self.sort_given([TREFOIL, HOPF if "linking" in name else mirror_image(TREFOIL)], given)
                 if name.startswith("by "):
-                    # What is told wrongly the checker finds.
+                    # What is reported wrongly the checker finds.
                     self.assertTrue(status in (0, 1) or "the checker says" in errors or "of another form than was due" in errors, errors)
                 elif name in ("half an answer", "no answer at all", "moves that are none", "other numbers"):
                     self.assertEqual(status, 3)

@@ -166,7 +166,7 @@ class Cited(unittest.TestCase):
     def test_help_says_what_is_too_low(self):
         done = call([sys.executable, "-B", SCRIPT, "--help"])
         self.assertEqual(done.returncode, 0)
-        self.assertIn("stands too low", done.stdout)
+        self.assertIn("is too low", done.stdout)
 
 
 if __name__ == "__main__":

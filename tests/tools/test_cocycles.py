@@ -184,7 +184,7 @@ class Find(unittest.TestCase):
 
     def test_the_trefoils_by_the_lists_of_the_tree(self):
         status, out, said = common.run("cocycles.py", "find", text=self.RIGHT_AND_LEFT)
-        self.assertEqual((status, said), (0, "cocycles.py: T5, of order 12, with a cocycle mod 5 tells them apart: weights 12 0 0 0 60 and weights 12 60 0 0 0\n"))
+        self.assertEqual((status, said), (0, "cocycles.py: T5, of order 12, with a cocycle mod 5 distinguishes them: weights 12 0 0 0 60 and weights 12 60 0 0 0\n"))
         self.assertTrue(out.startswith("# T5, found by"))
         self.assertIn("x 4 3 2 1 0\no 2 1 0 4 3\nbraid 2 -1 -1 -1\nquandle table 12\n", out)
         self.ruled(out, "weights 12 0 0 0 60\nweights 12 60 0 0 0\ndifferent\n")
@@ -217,7 +217,7 @@ class Find(unittest.TestCase):
             self.assertEqual(status, 0, words)
             self.assertIn("12 60 0 0 0", out)
         for words, said in ((["find", path, path + "x"], f"{path}x: No such file or directory"),
-                            (["find", path, path], f"{path}: {path} begins with a diagram too: both diagrams stand in one file"),
+                            (["find", path, path], f"{path}: {path} begins with a diagram too: both diagrams are in one file"),
                             (["weights", path], "weights takes a LIST of quandles"),
                             (["find", table], "standard input: line 1: a diagram is due where the text ends")):
             self.assertEqual(common.run("cocycles.py", *words), (1, "", f"cocycles.py: {said}\n"))

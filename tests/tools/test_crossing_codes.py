@@ -97,7 +97,7 @@ class Codes(unittest.TestCase):
         status, out, said = common.run("to_regina.py", "--print", *paths[:2])
         self.assertEqual((status, out), (0, f"# {paths[0]}\nLink.fromPD([[5, 3, 6, 2], [1, 5, 2, 4], [3, 1, 4, 6]])\n# {paths[1]}\nLink(2)\n"))
         self.assertEqual(said, f"{paths[1]}: note: 2 of the components have no crossing, and the rows do not hold them (--kinks puts them in)\n")
-        # Nothing is written of a file at fault, and what stands before it is.
+        # Nothing is written of a file at fault, and what is before it is.
         status, out, said = common.run("to_regina.py", "--print", paths[0], paths[2])
         self.assertEqual((status, said), (1, f"to_regina.py: {paths[2]}: the line 'loops' is missing\n"))
         self.assertIn("Link.fromPD", out)

@@ -168,7 +168,7 @@ class Pictures(unittest.TestCase):
         for text, said in ((TREFOIL + "moves 1\nexchange columns 0\n", "interleaved"), (TREFOIL + "quandle dihedral 3\ncolours 0 1 2 0 1\n", "no colouring"),
                            (TREFOIL + "quandle dihedral 3\ncolours 0 1 2\n", "line 4"), (TREFOIL + "quandle dihedral 3\n", "line 4"),
                            (TREFOIL + "colours 0 0 0 0 0\n", "line 3: a quandle is due before the colours"), ("x 0 1\n", "line 2"), ("", "line 1"),
-                           (TREFOIL + TREFOIL + "unknown budget 5\n", "line 5: behind two diagrams and quandles a verdict 'equal' or 'different' is due"), (TREFOIL + "moves 2\nshift rows 1\n", "line 5"),
+                           (TREFOIL + TREFOIL + "unknown budget 5\n", "line 5: after two diagrams and quandles a verdict 'equal' or 'different' is due"), (TREFOIL + "moves 2\nshift rows 1\n", "line 5"),
                            (TREFOIL + "moves 1\nshift rows 9\n", "range")):
             status, out, fault = common.run("draw.py", text=text)
             self.assertEqual((status, out), (1, ""), text)

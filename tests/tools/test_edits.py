@@ -234,7 +234,7 @@ class Together(EditsTest):
         return status, lines
 
     def checks(self):
-        """The calls behind the crate's proof: of a check the functions, of must-fail the edits."""
+        """The calls after the crate's proof: of a check the functions, of must-fail the edits."""
         calls = self.calls_made()
         self.assertEqual(calls[0], "check in low")
         return [re.sub(r"check --jobs 1 | in low|--only |low::", "", call) for call in calls[1:]]

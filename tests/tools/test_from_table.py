@@ -116,11 +116,11 @@ class BraidTest(TableTest):
                 ("", "the entry is empty"),
                 ("1,1,1", "the entry does not begin with a bracket"),
                 ("{1,1", "the bracket '}' is missing at the end"),
-                ("{1,1]", "a comma is due where ']' stands"),
-                ("{1 1}", "a comma is due where '1' stands"),
-                ("{1,,1}", "',' stands where a number or a bracket is due"),
-                ("{1,}", "a comma stands before a closing bracket"),
-                ("{1,1}}", "'}' stands behind the last bracket"),
+                ("{1,1]", "a comma is due, and not ']'"),
+                ("{1 1}", "a comma is due, and not '1'"),
+                ("{1,,1}", "a number or a bracket is due, and not ','"),
+                ("{1,}", "there is a comma before a closing bracket"),
+                ("{1,1}}", "'}' comes after the last bracket"),
                 ("{1,a}", "'a}' is neither a number, a comma nor a bracket"),
                 ("{1.5}", "'.5}' is neither a number, a comma nor a bracket"),
                 ("{1234567890}", "the number 123456789... has too many digits"),
@@ -138,7 +138,7 @@ class ArcsTest(TableTest):
 
     def test_the_left_trefoil(self):
         self.assertEqual(self.one("{{1,3},{2,4},{3,5},{4,1},{5,2}}"), LEFT_TREFOIL)
-        # Another that is often written: the same but for one column, which stands on the other side.
+        # Another that is often written: the same but for one column, which is on the other side.
         self.assertEqual(self.one("{{5,2},{1,3},{2,4},{3,5},{4,1}}"), "x 4 0 1 2 3\no 1 2 3 4 0\n")
         self.assertEqual(grid_facts.writhe(*self.grid("{{5,2},{1,3},{2,4},{3,5},{4,1}}")), -3)
 
@@ -199,9 +199,9 @@ class ArcsTest(TableTest):
                 (wide, "49 pairs, and a grid has at most 48 columns"),
                 ("{{1,2}}", "one pair alone, and a grid has two columns or more"),
                 ("{{1,2},{2,2}}", "pair 2 has the number 2 twice"),
-                ("{{1,2},{1,3},{1,2}}", "the number 1 stands 3 times, and not twice"),
-                ("{{1,2},{2,4},{4,1}}", "the number 4 stands in a pair, and 3 pairs have the numbers 1 to 3"),
-                ("{{1,2},{2,-1}}", "the number -1 stands in a pair, and 2 pairs have the numbers 1 to 2"),
+                ("{{1,2},{1,3},{1,2}}", "the number 1 comes 3 times, and not twice"),
+                ("{{1,2},{2,4},{4,1}}", "the number 4 is in a pair, and 3 pairs have the numbers 1 to 3"),
+                ("{{1,2},{2,-1}}", "the number -1 is in a pair, and 2 pairs have the numbers 1 to 2"),
                 ("{{1,2},{1,2,3}}", "the entry is neither a braid word, a list of pairs, a PD code nor a DT code")):
             with self.subTest(entry[:40]):
                 self.assertEqual(self.reason(entry), reason)
@@ -229,7 +229,7 @@ class TableShapesTest(TableTest):
         path = self.table("name,word\na,{1,1,1}\nb,{1}\n")
         status, out, errors = self.call(path, self.out, "--diagram", "word")
         self.assertEqual(status, 1)
-        self.assertEqual(errors, f"{path}:2: a: the row has 4 fields, and the header 2; a field with commas stands in quotes\n")
+        self.assertEqual(errors, f"{path}:2: a: the row has 4 fields, and the header 2; a field with commas needs quotes\n")
         self.assertEqual(out, f"2 rows: 1 diagrams in {self.out}, 1 couldn't be made\n")
 
     def test_names(self):

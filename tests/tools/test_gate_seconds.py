@@ -47,7 +47,7 @@ class GateSeconds(unittest.TestCase):
     def assertSums(self, text):
         sums = re.search(SUMS, text)
         self.assertTrue(sums, text)
-        # Each process may lack what it took behind the last look; what it lacks is in the rest.
+        # Each process may lack what it took after the last look; what it lacks is in the rest.
         for found, due, count in zip(map(int, sums.groups()), (3, 2.5, 4), (2, 1, 2)):
             self.assertTrue(due - 0.6 * count - 0.5 <= found <= due + 0.5 * count, text)
         self.assertGreaterEqual(int(sums[4]), 1)
@@ -59,7 +59,7 @@ class GateSeconds(unittest.TestCase):
         self.assertSums(done.stdout)
 
     def gate(self, rt):
-        """The gate in a tree of its own, with a stand-in for rt and for what comes behind it."""
+        """The gate in a tree of its own, with a stand-in for rt and for what comes after it."""
         for name in ("run", "gate_seconds.py"):
             folder = ".ci" if name == "run" else "tests"
             self.write(f"tree/{folder}/{name}", read(folder, name))

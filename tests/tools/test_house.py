@@ -95,7 +95,7 @@ class Crates(unittest.TestCase):
             "high is on floor 3 in crates.txt, and on 2 by the names in its files",
             "low: crates.txt lists what no file names: memchr",
             "high: crates.txt lists what no file names: low arrayvec",
-            "1 crates stand on another floor than crates.txt says; it lists 3 libraries that no file of their crate names"])
+            "1 crates are on a floor other than crates.txt says; it lists 3 libraries that no file of their crate names"])
 
     def test_crates_that_name_one_another_are_an_error(self):
         self.write("crates/low/specs/Size.antt", "use Rattle.high.specs.Size.{size}\n")

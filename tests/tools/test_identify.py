@@ -48,7 +48,7 @@ name,mirror,reverse,mirror_reverse
 """
 LEFT = Grid((1, 2, 3, 4, 0), (4, 0, 1, 2, 3))
 EIGHT = Grid((5, 3, 4, 1, 2, 0), (1, 0, 2, 3, 5, 4))
-# A cocycle that tells the two trefoils apart isn't to be had for so few colours, but a shadow cocycle is.
+# A cocycle that distinguishes the two trefoils isn't to be had for so few colours, but a shadow cocycle is.
 LIST = "quandle dihedral 3\nquandle tetrahedral\nquandle dihedral 3\nshadow mochizuki\nquandle dihedral 5\n"
 
 # A table and its rows, made by the first test that needs them.
@@ -217,7 +217,7 @@ class BadInput(IdentifyTest):
     def test_a_table_of_knots_that_was_cut_or_changed(self):
         cases = (("knots.csv", TABLE[:-20], "the table was cut or changed"), ("knots.csv", TABLE.rpartition("5_1")[0], "5_1 is missing, which"),
                  ("knots.csv", TABLE.replace("{2,4},{3,6},{1,5}", "{2,4},{3,5},{1,6}"), "the diagram of 4_1 isn't the one whose numbers"),
-                 ("knots.csv", TABLE.replace("4_1,4a_1", "3_1,4a_1"), "'3_1' stands there twice"), ("knots.csv", "", "the table is empty"),
+                 ("knots.csv", TABLE.replace("4_1,4a_1", "3_1,4a_1"), "'3_1' is there twice"), ("knots.csv", "", "the table is empty"),
                  ("knots.numbers.txt", MADE[0][:200], "the file was cut or changed"),
                  ("knots.numbers.txt", MADE[0].replace("9/16", "9/17"), "the file was cut or changed"),
                  ("list.txt", LIST + "quandle dihedral 7\n", "the rows were counted by another list"),
@@ -263,7 +263,15 @@ class BadInput(IdentifyTest):
     def test_a_file_that_cannot_be_written(self):
         status, out, said = self.identify("--braid", "1", "--out", os.path.join(self.folder, "none", "out.csv"))
         self.assertEqual((status, out, said.count("\n")), (3, "", 1), said)
-        self.assertIn("No such file", said)
+        self.assertIn(f"identify.py: {self.folder}/none/out.csv: No such file", said)
+
+    def test_the_rows_go_into_a_file(self):
+        status, out, said = self.identify("--braid", "1", "--out", "/dev/full")
+        self.assertEqual((status, out, said), (2, "", "identify.py: /dev/full: not a regular file: name another by --out\n"))
+        os.symlink("file.csv", os.path.join(self.folder, "link.csv"))
+        self.assertEqual(self.identify("--braid", "1", "--out", os.path.join(self.folder, "link.csv"))[0], 0)
+        self.assertEqual(os.readlink(os.path.join(self.folder, "link.csv")), "file.csv")
+        self.assertEqual(self.rows(os.path.join(self.folder, "file.csv"))[0]["answer"], "unknot")
 
 
 class Threads(IdentifyTest):
@@ -318,6 +326,21 @@ class GoingOn(IdentifyTest):
         self.assertEqual(self.identify(self.given, "--out", self.out)[:2], (1, "4 diagrams: 3 named, 1 refused\n"))
         self.assertEqual([row["answer"] for row in self.rows(self.out)], ["3_1", "unknot", "refused", "unknot"])
 
+    def test_a_signal_ends_the_walks(self):
+        begun = os.path.join(self.folder, "begun")
+        endless = self.put("endless/seek", f"#!/bin/sh\ncase \"$*\" in *--seed=*) echo >> {begun}; exec sleep 1000;; esac\nexec {self.seek} \"$@\"\n")
+        os.chmod(endless, 0o755)
+        self.put("given/a.txt", grid_text(Grid(EIGHT.xs[2:] + EIGHT.xs[:2], EIGHT.os[2:] + EIGHT.os[:2])))
+        given = os.path.join(self.folder, "given")
+        words = [sys.executable, "-B", os.path.join(common.TOOLS, "identify.py"), "--table", self.table, "--list", self.list, given]
+        with subprocess.Popen(words, env={**os.environ, "KNOT": STAND_IN, "SEEK": endless}, stdout=subprocess.PIPE, stderr=subprocess.PIPE, text=True,
+                              preexec_fn=common.default_signals) as process:
+            while process.poll() is None and not os.path.exists(begun):
+                time.sleep(0.02)
+            process.send_signal(signal.SIGTERM)
+            out, said = process.communicate(timeout=500)
+        self.assertEqual((process.returncode, out, said), (128 + signal.SIGTERM, "", "identify.py: stopped by signal 15\n"))
+
     def test_what_a_program_failed_at_is_done_again(self):
         failing = self.put("failing/seek", f"#!/bin/sh\ncase \"$*\" in *--seed=*) exit 7;; esac\nexec {self.seek} \"$@\"\n")
         os.chmod(failing, 0o755)
@@ -328,7 +351,7 @@ class GoingOn(IdentifyTest):
         self.assertEqual(self.identify(*words, "--seek", failing)[:2], (1, "2 diagrams: 1 failed, 1 named\n"))
         row = self.rows(self.out)[1]
         self.assertEqual((row["name"], row["answer"]), ("b", "failed"))
-        self.assertIn("memory was wanting", row["said"])
+        self.assertIn("memory ran out", row["said"])
         self.assertEqual(self.identify(*words)[:2], (0, "2 diagrams: 2 named\n"))
         self.assertEqual([row["answer"] for row in self.rows(self.out)], ["4_1", "4_1"])
 
@@ -341,7 +364,7 @@ class GoingOn(IdentifyTest):
         for _ in range(2):
             self.assertEqual(self.identify(*words)[:2], (1, "2 diagrams: 1 failed, 1 named\n"))
             self.assertEqual([row["answer"] for row in self.rows(self.out)], ["failed", "4_1"])
-            self.assertEqual(self.rows(self.out)[0]["said"], "knot grid: ended with status 7, memory was wanting")
+            self.assertEqual(self.rows(self.out)[0]["said"], "knot grid: ended with status 7, memory ran out")
 
     def test_open_rows_are_done_again_where_that_is_asked_for(self):
         path = self.put("open.csv", 'name,braid\na,"{1,-2,1,-2}"\n')
@@ -396,11 +419,11 @@ class KnotTableScript(IdentifyTest):
         return self.call("knot_table.py", *words, self.table, "--list", self.list)
 
     def test_numbers_are_counted_anew_and_compared(self):
-        self.assertEqual(self.make("numbers", "--all"), (0, f"{self.table}: numbers: as they stand there\n", ""))
+        self.assertEqual(self.make("numbers", "--all"), (0, f"{self.table}: numbers: as in the file\n", ""))
         self.put("knots.csv", TABLE.replace("{{2,5},{3,1},{4,2},{5,3},{1,4}}", "{{4,1},{3,5},{2,4},{1,3},{5,2}}"))
         status, out, said = self.make("numbers")
         self.assertEqual((status, out), (1, f"{self.table}: numbers: 1 lines differ\n"))
-        self.assertIn("3_1: the numbers are others", said)
+        self.assertIn("3_1: the numbers differ from those in the file", said)
         self.assertEqual(self.read("knots.numbers.txt"), MADE[0])
 
     def test_symmetries_that_numbers_rule_out(self):
@@ -415,7 +438,7 @@ class KnotTableScript(IdentifyTest):
         self.assertEqual(len(known["4_1"].turns()), 4)
 
     def test_further_lists_and_walks_for_symmetries(self):
-        # The rows of this list tell nothing from its mirror image, and of all turns shifts join 4_1 to its reversed mirror image alone.
+        # The rows of this list distinguish nothing from its mirror image, and of all turns shifts join 4_1 to its reversed mirror image alone.
         self.list = self.put("short.txt", "quandle dihedral 3\n")
         self.assertEqual(self.make("numbers", "--write")[0], 0)
         mirrors, target = self.put("mirrors.txt", "quandle dihedral 3\nshadow mochizuki\n"), os.path.join(self.folder, "knots.symmetry.csv")
@@ -590,14 +613,14 @@ class WithThePrograms(IdentifyTest):
             self.assertEqual(self.identify("-", text=text)[:2], (0, "4_1\n"), text)
 
     def test_the_trefoil_by_its_dt_code(self):
-        self.assertEqual(self.identify("--dt", "4 6 2"), (0, "3_1\n", "identify.py: a DT code doesn't tell it from its mirror image\n"))
+        self.assertEqual(self.identify("--dt", "4 6 2"), (0, "3_1\n", "identify.py: a DT code doesn't distinguish it from its mirror image\n"))
 
     def test_sums_in_their_mirror_images(self):
         for word, name in (("3 1 1 1 2 2 2", "3_1 mirrored # 3_1 mirrored"), ("3 -1 -1 -1 2 2 2", "3_1 # 3_1 mirrored"), ("4 -1 -1 -1 2 -3 2 -3", "3_1 # 4_1")):
             self.assertEqual(self.identify("--braid", word), (0, name + "\n", ""))
 
     def test_what_a_code_lacks_is_told(self):
-        self.assertEqual(self.identify("-", text="PD[X[1,2,3,4]]\n"), (1, "refused\n", "identify.py: the edge 1 doesn't stand exactly twice\n"))
+        self.assertEqual(self.identify("-", text="PD[X[1,2,3,4]]\n"), (1, "refused\n", "identify.py: the edge 1 doesn't occur exactly twice\n"))
 
     def test_a_code_that_is_too_large_is_refused_with_its_size(self):
         # The torus knot of two strands and 61 crossings, whose smallest grid has 63 columns.
@@ -617,7 +640,7 @@ class WithThePrograms(IdentifyTest):
             self.assertEqual([(row["name"], row["answer"], row["said"]) for row in self.rows(os.path.join(self.folder, "out.csv"))],
                              [("none", "refused", "there is no diagram: the entry is empty"), ("link", "link of 2 components", ""),
                               ("large", "refused", "its drawing takes 63 columns, and a grid has at most 48"),
-                              ("edge", "refused", "the edge 1 doesn't stand exactly twice"), ("good", "3_1", ""),
+                              ("edge", "refused", "the edge 1 doesn't occur exactly twice"), ("good", "3_1", ""),
                               ("short", "refused", "the row has 1 fields, and the header 2")])
         self.assertEqual(os.listdir(os.path.join(self.folder, "kept")), ["good.txt"])
 

@@ -1,4 +1,4 @@
-"""The quandles of 56, 84 and 120 colours: laws, files, and what their numbers tell apart."""
+"""The quandles of 56, 84 and 120 colours: laws, files, and what their numbers distinguish."""
 import math
 import os
 import unittest

@@ -139,7 +139,7 @@ class CutTest(PiecesTest):
         self.assertEqual((status, out), (2, ""))
         self.assertEqual([error.removeprefix("pieces.py: table.txt: ") for error in errors], [
             "line 2: it has no tab: a name, a tab and a problem are due", "line 3: it is empty", "line 4: it has no name before the tab",
-            "line 5: it has no problem behind the tab", "line 6: it has a second tab", "line 7: a name doesn't begin with '#'",
+            "line 5: it has no problem after the tab", "line 6: it has a second tab", "line 7: a name doesn't begin with '#'",
             "line 9: it ends with a carriage return", "line 10: it has a control character", "line 8: the name 'a' is that of line 1 too",
             "lines are at fault; nothing was cut"])
         self.assertEqual([name for name in os.listdir(self.folder) if "run" in name], [])
@@ -258,7 +258,7 @@ class RunTest(PiecesTest):
         self.assertEqual(self.pieces("join", "run")[1], "".join(f"s{status}\t{status}\tsaid {status} / and more\n" for status in (0, 1, 3, 4, 8)))
 
     def test_a_line_without_an_answer_is_named_and_its_piece_is_left(self):
-        for status, why in ((5, "status 5, reading failed"), (6, "status 6, writing failed"), (7, "status 7, there was no memory: there is no memory"),
+        for status, why in ((5, "status 5, reading failed"), (6, "status 6, writing failed"), (7, "status 7, memory ran out: there is no memory"),
                             (10, "status 10, it was given no words"), (127, "status 127, it could not be built"), (99, "ended by signal 9"),
                             (2, "status 2, it refuses the words"), (77, "status 77")):
             with self.subTest(status):
@@ -443,9 +443,9 @@ class JoinTest(PiecesTest):
         self.assertEqual(self.pieces("join", "run", "1-2"), (3, "", ["pieces.py: 1 of 2 pieces have no whole answer: 1"]))
 
     def test_a_name_that_is_missing_or_twice_or_out_of_order_is_told(self):
-        for change, said in ((lambda rows: rows[:1], "the name 'k4' is missing"), (lambda rows: [rows[0], rows[0]], "the name 'k3' stands twice"),
-                             (lambda rows: rows[::-1], "the name 'k4' stands where 'k3' is due"),
-                             (lambda rows: [*rows, "k9\t0\tnumbers 1\n"], "the name 'k9' is none of the piece's, or stands twice")):
+        for change, said in ((lambda rows: rows[:1], "the name 'k4' is missing"), (lambda rows: [rows[0], rows[0]], "the name 'k3' comes twice"),
+                             (lambda rows: rows[::-1], "the name 'k4' comes where 'k3' is due"),
+                             (lambda rows: [*rows, "k9\t0\tnumbers 1\n"], "the name 'k9' is none of the piece's, or comes twice")):
             with self.subTest(said):
                 self.made(*FIVE)
                 self.forged(2, change)

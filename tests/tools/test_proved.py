@@ -6,7 +6,7 @@ import unittest
 from common import ROOT, read
 
 HEADING = "## What breaks each clause\n"
-# A crate, and its edits behind it.
+# A crate, and its edits after it.
 NAMED = re.compile(r"(\w+) ((?:`\w+`(?:, )?)+)")
 
 

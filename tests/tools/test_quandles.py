@@ -1,4 +1,4 @@
-"""The tables of connected quandles, the table of knots, and how many of its pairs the lists tell apart."""
+"""The tables of connected quandles, the table of knots, and how many of its pairs the lists distinguish."""
 import itertools
 import os
 import re
@@ -314,11 +314,11 @@ class Knots(unittest.TestCase):
         lists = [os.path.join(common.LISTS, name) for name in ("list-short.txt", "list-one-of-each-pair.txt", "list-64.txt")]
         status, out, _ = common.run("quandles.py", "pairs", common.KNOTS, *lists)
         self.assertEqual(status, 0)
-        told = [line.split(": ")[1] for line in out.splitlines() if "told apart" in line]
-        self.assertEqual(told, ["5 quandles, 26 of 34 neighbours and 511 of 595 pairs told apart",
-                                "18 quandles, 34 of 34 neighbours and 587 of 595 pairs told apart",
-                                "53 quandles, 34 of 34 neighbours and 590 of 595 pairs told apart",
-                                "64 quandles, 34 of 34 neighbours and 590 of 595 pairs told apart"])
+        told = [line.split(": ")[1] for line in out.splitlines() if "pairs distinguished" in line]
+        self.assertEqual(told, ["5 quandles, 26 of 34 neighbours and 511 of 595 pairs distinguished",
+                                "18 quandles, 34 of 34 neighbours and 587 of 595 pairs distinguished",
+                                "53 quandles, 34 of 34 neighbours and 590 of 595 pairs distinguished",
+                                "64 quandles, 34 of 34 neighbours and 590 of 595 pairs distinguished"])
 
     def test_counts_do_not_depend_on_the_first_colour(self):
         quandle = diagrams.quandle_of("", connected.Collection(6).found[6][1].table)
@@ -354,7 +354,7 @@ class Words(unittest.TestCase):
             table.flush()
             status, out, fault = common.run("quandles.py", "pairs", table.name, "--name", "Knot", "--braid", "Braid Notation")
             self.assertEqual((status, fault), (0, ""))
-            self.assertIn("1 of 1 pairs told apart", out)
+            self.assertIn("1 of 1 pairs distinguished", out)
             status, _, fault = common.run("quandles.py", "pairs", table.name, "--name", "Knot")
             self.assertEqual(status, 1)
             self.assertIn(f"{table.name}: line 1: no column 'braid', but 'Knot', 'Braid Notation'; --braid names another one", fault)

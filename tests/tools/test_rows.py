@@ -249,7 +249,7 @@ NOT_BESIDE = r"""some: not again
     the answer of the same call is \(0, b'[0-9]+\\n'\), and not \(0, b'[0-9]+\\n'\)
 some: not kept
     the mode of made is '604', and not '640'
-    what else stands there is \['old'\], and not \[\]
+    what else is there is \['old'\], and not \[\]
 5 cases, 8 calls, 2 different
 """
 

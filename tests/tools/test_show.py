@@ -1,4 +1,4 @@
-"""Pages of certificates: what stands in them, what is refused, and in a browser without a window that the keys and sliders work."""
+"""Pages of certificates: what is in them, what is refused, and in a browser without a window that the keys and sliders work."""
 import html
 import json
 import os
@@ -195,7 +195,7 @@ class Pages(unittest.TestCase):
 
     def test_bad_input_is_refused(self):
         trefoil = "x 4 3 2 1 0\no 2 1 0 4 3\n"
-        for text, said in ((trefoil, "line 3: a second diagram is due"), (trefoil + "equal 0\n", "line 3: behind a diagram moves or a second diagram are due"),
+        for text, said in ((trefoil, "line 3: a second diagram is due"), (trefoil + "equal 0\n", "line 3: after a diagram moves or a second diagram are due"),
                            (trefoil + trefoil + "unknown budget 5\n", "no evidence to be shown"), (trefoil + trefoil + "equal 1\nexchange columns 0\n", "interleaved"),
                            (trefoil + "x 0 1\no 1 0\nequal 0\n", "don't lead to the second diagram"), (trefoil + trefoil, "line 5"),
                            (APART.replace("0 1 2 0 2", "0 1 2 0 1"), "line 1 of the list of the first diagram, counted from 0, is no colouring"),

@@ -50,7 +50,7 @@ class TableStreamsTest(StreamsTest):
     def test_all_closed(self):
         path = self.table("name,word\na,{1}\n")
         self.assertEqual(self.shell([FROM_TABLE, path, self.out, "--diagram", "word"], "<&- >&- 2>&-"), (3, "", ""))
-        # No file got the number of a stream, so nothing but the diagram stands in it.
+        # No file got the number of a stream, so nothing but the diagram is in it.
         self.assertEqual((self.files(), self.made("a")), (["a.txt"], "# name: a\nbraid 2 1\n"))
 
     def test_a_file_that_can_not_be_written_is_named(self):

@@ -219,7 +219,7 @@ class AlteredTest(unittest.TestCase):
 
 
 class StandingsTest(unittest.TestCase):
-    """The classes of certificates, of a class whose mirror image a search told from it, and of whose reverse nothing is known."""
+    """The classes of certificates, of a class whose mirror image a search distinguished from it, and of whose reverse nothing is known."""
 
     def test_what_a_search_told_apart_has_numbers_of_its_own_block(self):
         blocks = read_blocks()

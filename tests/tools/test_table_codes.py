@@ -83,7 +83,7 @@ class DrawnTest(TableTest):
                 self.assertIn("of a PD code\n", self.of(title, PD[0]))
 
     def test_codes_that_cannot_be_drawn(self):
-        for entry, reason in (("[[1,5,2,4],[3,1,4,6]]", "the edge 2 doesn't stand exactly twice"),
+        for entry, reason in (("[[1,5,2,4],[3,1,4,6]]", "the edge 2 doesn't occur exactly twice"),
                               ("[[1,1,2,2],[3,3,4,4],[5,5,6,6],[7,7,8,8],[9,9,10,10],[11,11,12,12]]", "its drawing takes 50 columns, and a grid has at most 48"),
                               ("[[1,1,2,2],[3,3,4,4],[5,5,6,6],[7,7,8,8],[9,9,10,10]]", "no diagram in the plane has this code"),
                               ("PD[X[1,2,3]]", "row 1 of a PD code has four numbers, and not [1, 2, 3]"), ("X[-1,5,2,4]", "row 1 has the edge -1"),
@@ -97,7 +97,7 @@ class DrawnTest(TableTest):
         path = self.table("name|pd_notation\na|{{1,5,2,4},{3,1,4,6},{5,3,6,2}}\nb|{{1,2,3,4}}\nc|{1,1,1}\n")
         status, out, errors = self.call(path, self.out, "--diagram", "pd_notation")
         self.assertEqual((status, out, self.files()), (1, f"3 rows: 1 diagrams in {self.out}, 2 couldn't be made\n", ["a.txt"]))
-        self.assertEqual(errors.splitlines(), [f"{path}:3: b: the edge 1 doesn't stand exactly twice", f"{path}:4: c: row 1 of a PD code has four numbers, and not 1"])
+        self.assertEqual(errors.splitlines(), [f"{path}:3: b: the edge 1 doesn't occur exactly twice", f"{path}:4: c: row 1 of a PD code has four numbers, and not 1"])
 
     def test_a_program_that_cannot_be_run_ends_it(self):
         path = self.table(f'name,pd\nk,"{PD[0]}"\n')
@@ -109,7 +109,7 @@ class DrawnTest(TableTest):
     def test_a_program_that_gives_no_answer_costs_one_row(self):
         path = self.table(f'name,pd\nk,"{PD[0]}"\n')
         failing = os.path.join(self.folder, "failing")
-        for ending, reason in (("exit 7", "ended with status 7, memory was wanting"), ("kill -9 $$", "ended by signal 9")):
+        for ending, reason in (("exit 7", "ended with status 7, memory ran out"), ("kill -9 $$", "ended by signal 9")):
             with open(failing, "w", encoding="utf-8") as out:
                 out.write(f"#!/bin/sh\n{ending}\n")
             os.chmod(failing, 0o755)

@@ -125,7 +125,7 @@ class InputsTest(unittest.TestCase):
         self.assertEqual(done.returncode, 3, done.stderr)
         for line in (3, 4, 5, 6, 7):
             self.assertIn(f"codes.csv:{line}: ", done.stderr)
-        self.assertNotIn("codes.csv:2: ", done.stderr.replace("stands at", ""))
+        self.assertNotIn("codes.csv:2: ", done.stderr.replace("is at", ""))
         self.assertIn("2 components", done.stderr)
         self.assertEqual([one["name"] for one in rows(self.out, "rows.csv")], ["good", "mirrored"])
         self.assertEqual([one["name"] for one in rows(self.out, "table.csv")], ["3_1"])

@@ -104,7 +104,7 @@ class BadInput(unittest.TestCase):
         self.assertEqual(common.run("turn.py", "--mirror", "a", "b")[0], 2)
 
     def test_texts_and_files(self):
-        for text, said in (("", "turn.py: line 1: a diagram is due"), ("x 0 1\no 0 1\n", "turn.py: line 2: column 0"), ("x 0 1\no 1 0\nx 0 1\n", "turn.py: line 3: nothing is due")):
+        for text, said in (("", "turn.py: line 1: a diagram is due"), ("x 0 1\no 0 1\n", "turn.py: line 2: column 0"), ("x 0 1\no 1 0\nx 0 1\n", "turn.py: line 3: nothing more is due")):
             status, out, fault = common.run("turn.py", "--mirror", text=text)
             self.assertEqual((status, out), (1, ""))
             self.assertTrue(fault.startswith(said), fault)
