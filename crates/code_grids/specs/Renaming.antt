@@ -41,7 +41,7 @@ abbrev pub IsSameAt : List ℕ → List ℕ → List Crossing → List Crossing 
 IsSameAt names crossings ones twos k =
     (d : Crossing) → renamed names (slice_index_or ones k d) ≡ slice_index_or twos (slice_index crossings k) d
 
--- and so it is for all of them
+-- each crossing of the first code, with its edges renamed, is the crossing of the second that the list names
 abbrev pub IsSame : List ℕ → List ℕ → List Crossing → List Crossing → Type 0
 IsSame names crossings ones twos = (k : ℕ) → k < length ones → IsSameAt names crossings ones twos k
 
@@ -55,7 +55,7 @@ pub record IsRenaming (one two : Code) (r : Renaming) : Type 0 where
   pub named : NameEdges one.edges one.crossings
   pub same : IsSame r.edges r.crossings one.crossings two.crossings
 
--- and each crossing gets the place that the list has for it
+-- the first code becomes the second under these names, and each crossing gets the place that the list has for it
 abbrev pub IsRenamingBy : Code → Code → List ℕ → Renaming → Type 0
 IsRenamingBy one two crossings r = IsRenaming one two r × (r.crossings ≡ crossings)
 

@@ -8,14 +8,14 @@ ghost use Rattle.crossing_codes.specs.Code.{code};
 ghost use Rattle.crossing_codes.specs.CodeColouring.{is_code_colouring};
 ghost use Rattle.crossing_codes.specs.EdgeColouring.{edge_colours};
 ghost use Rattle.code_rows.specs.CodeFault.{first_code_fault};
-ghost use Rattle.code_grids.specs.declared.refusal.Refusal.TheVariants as refusal;
+ghost use Rattle.code_grids.specs.declared.refusal.DrawingRefusal.TheVariants as refusal;
 ghost use Rattle.code_grids.specs.Renaming.{IsRenaming};
 ghost use Rattle.code_grids.specs.Recoloured.{recoloured};
 
-use crate::draft::draft_of;
-use crate::refusal::Refusal;
+use crate::refusal::DrawingRefusal;
 use crate::renaming::Renaming;
 use crate::same_code::renaming_between;
+use code_drafts::draft_of;
 use crossing_codes::{Code, code_of};
 use grid_core::{Grid, MAX_SIZE};
 use memory_core::OutOfMemory;
@@ -36,8 +36,11 @@ pub struct Drawing {
 /// colouring of the diagram gives, by their old names, are a colouring of the given code, and each of these comes from exactly one colouring.
 ///
 /// The code must have no fault (`first_fault` of code_rows). Refused with `Columns` where the drawing takes more columns than a grid may
-/// have; with `Lost` where it turned out to be no diagram of the code, which no test has met.
-pub fn grid_of_code(alloc: Global, given: &Code) -> Result<Result<Drawing, Refusal>, OutOfMemory>
+/// have; with `Lost` where it turned out to be no diagram of the code, which has happened in no test.
+pub fn grid_of_code(
+    alloc: Global,
+    given: &Code,
+) -> Result<Result<Drawing, DrawingRefusal>, OutOfMemory>
     requires { first_code_fault given.now ≡ None }
     ensures columns { IfOk result (λ answer. (n : ℕ) → answer ≡ Err (refusal.Columns n) → MAX_SIZE < n) }
     ensures same { IfOk result (λ answer. IfOk answer (λ drawing. IsRenaming given.now (code drawing.grid) drawing.renaming)) }
@@ -47,32 +50,37 @@ pub fn grid_of_code(alloc: Global, given: &Code) -> Result<Result<Drawing, Refus
 {
     let draft = draft_of(alloc, given, MAX_SIZE)?;
     if draft.columns > MAX_SIZE {
-        return Ok(Err(Refusal::Columns {
+        return Ok(Err(DrawingRefusal::Columns {
             columns: draft.columns,
         }));
     }
     let Ok(grid) = Grid::new(draft.x.as_slice(), draft.o.as_slice()) else {
-        return Ok(Err(Refusal::Lost));
+        return Ok(Err(DrawingRefusal::Lost));
     };
     let crossings = ranks(alloc, draft.crossings.as_slice())?;
     let found = code_of(alloc, &grid)?;
     let Some(renaming) = renaming_between(alloc, given, &found, crossings)? else {
-        return Ok(Err(Refusal::Lost));
+        return Ok(Err(DrawingRefusal::Lost));
     };
     Ok(Ok(Drawing { grid, renaming }))
 }
 
-/// How many crossings stand before each one, by row from the lowest, and in a row by column from the left.
+/// How many crossings come before each one, by row from the lowest, and in a row by column from the left.
 fn ranks(alloc: Global, crossings: &[(u8, u8)]) -> Result<Vec<u32>, AllocError> {
     let mut ranks = Vec::new(alloc);
     for (column, row) in crossings {
-        let mut rank: u32 = 0;
-        for (other_column, other_row) in crossings {
-            if other_row < row || (other_row == row && other_column < column) {
-                rank = rank.saturating_add(1);
-            }
-        }
-        ranks.push(rank)?;
+        ranks.push(rank_of(crossings, *column, *row))?;
     }
     Ok(ranks)
+}
+
+/// How many crossings stand before this place.
+fn rank_of(crossings: &[(u8, u8)], column: u8, row: u8) -> u32 {
+    let mut rank: u32 = 0;
+    for (other_column, other_row) in crossings {
+        if *other_row < row || (*other_row == row && *other_column < column) {
+            rank = rank.saturating_add(1);
+        }
+    }
+    rank
 }

@@ -1,11 +1,11 @@
 //! New names of edges, as the crossings ask for them.
 //! Names are exchanged in pairs, from each edge's own name on, so that they are one to one whatever is asked for.
 ghost use Rattle.std.specs.Prelude.{◌≡◌, true, length, IfOk};
-ghost use Rattle.std.specs.List.{range_with_len};
 ghost use Rattle.crossing_codes.specs.CodeColouring.{is_edge, names_edges};
 ghost use Rattle.code_grids.specs.Renaming.{NameEdges, AreInverse, new_name, renamed, IsSame};
 ghost use Rattle.code_grids.specs.Correspond.{AreBelow, MeetIfAny, KeepRight};
 
+use code_rows::own_places;
 use crossing_codes::Crossing;
 use std::alloc::{AllocError, Global};
 
@@ -35,17 +35,6 @@ pub(crate) fn edge_names(
         crossings,
     );
     Ok((there, back))
-}
-
-/// The numbers below n.
-fn own_places(alloc: Global, n: u32) -> Result<Vec<u32>, AllocError>
-    ensures { IfOk result (λ v. v.items ≡ range_with_len 0 n) }
-{
-    let mut places = Vec::new(alloc);
-    for place in 0..n {
-        places.push(place)?;
-    }
-    Ok(places)
 }
 
 /// Gives the edges of each crossing the names that they have at the crossing which the list names.

@@ -19,7 +19,7 @@ pub fn a_renaming_is_one_to_one()
         → IsPermutation (map (renamed r.edges) one.crossings) two.crossings }
 {}
 
-/// The places of the crossings tell the new names of all edges that crossings name.
+/// The places of the crossings determine the new names of all edges that crossings name.
 pub fn the_crossings_tell_the_edges()
     ensures { (one two : Code) (r s : Renaming) → IsRenaming one two r → IsRenaming one two s → r.crossings ≡ s.crossings
         → (k : ℕ) (d : Crossing) → k < length one.crossings

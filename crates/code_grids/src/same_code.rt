@@ -8,12 +8,12 @@ ghost use Rattle.code_grids.specs.Correspond.{Correspond, AreBelow};
 use crate::edge_names::edge_names;
 use crate::renaming::Renaming;
 use crossing_codes::{Code, Crossing, names_edges};
-use memory_core::{Items, OutOfMemory};
+use memory_core::OutOfMemory;
 use std::alloc::{AllocError, Global};
 
 /// A renaming by which the one code becomes the other, and crossing k, counted from 0, becomes crossing `crossings[k]`.
 ///
-/// `None` exactly where there is none. The codes may be any, and so may the list.
+/// `None` exactly where there is none. Any codes and any list are allowed.
 pub fn renaming_between(
     alloc: Global,
     one: &Code,
@@ -35,12 +35,8 @@ pub fn renaming_between(
     if !are_same(edges.as_slice(), crossings.as_slice(), ones, twos) {
         return Ok(None);
     }
-    Ok(Some(Renaming {
-        crossings: Items::from_vec(crossings),
-        crossings_back: Items::from_vec(crossings_back),
-        edges: Items::from_vec(edges),
-        edges_back: Items::from_vec(edges_back),
-    }))
+    let renaming = Renaming::of(crossings, crossings_back, edges, edges_back);
+    Ok(Some(renaming))
 }
 
 /// Whether the codes have as many crossings, edges and loops, each crossing has a place, and they name no edges but theirs.
@@ -105,7 +101,7 @@ fn undo_each_other(there: &[u32], back: &[u32]) -> bool
     is_undone(there, back) && is_undone(back, there)
 }
 
-/// Whether the number at each place of the one list is a place of the other, where the number of the first place stands.
+/// Whether the number at each place of the one list is a place of the other, where the number of the first place is.
 fn is_undone(there: &[u32], back: &[u32]) -> bool
     ensures { IsTrue result ↔ IsUndone there.now back.now }
 {

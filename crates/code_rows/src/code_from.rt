@@ -16,7 +16,7 @@ use crossing_codes::{Code, Crossing};
 use memory_core::{Items, OutOfMemory};
 use std::alloc::{AllocError, Global};
 
-/// The signed code of these rows with so many loops and without a fault, or why there is none: the first fault of the rows themselves;
+/// The signed code of these rows with this many loops and without a fault, or why there is none: the first fault of the rows themselves;
 /// else `Direction` where no signs give each strand a direction; else `Plane`. There may be at most `MAX_CROSSINGS` rows.
 pub fn code_of_rows(
     alloc: Global,

@@ -135,8 +135,8 @@ fn parts(alloc: Global, ends: &[u32], crossings: u32) -> Result<usize, AllocErro
     Ok(count_own(numbers.as_slice()))
 }
 
-/// The numbers below n.
-fn own_places(alloc: Global, n: u32) -> Result<Vec<u32>, AllocError>
+/// The numbers below n, from 0. It fails only if memory runs out.
+pub fn own_places(alloc: Global, n: u32) -> Result<Vec<u32>, AllocError>
     ensures all { IfOk result (λ v. v.items ≡ range_with_len 0 n) }
     ensures long { IfOk result (λ v. length v.items ≡ n) }
 {
@@ -182,7 +182,7 @@ fn after_uniting(number: u32, one: u32, other: u32) -> u32
     }
 }
 
-/// How many numbers stand at their own place.
+/// How many numbers are at their own place.
 fn count_own(numbers: &[u32]) -> usize
     requires { length numbers.now ≤ MAX_CROSSINGS }
     ensures count { result ≡ count_by (λ k. slice_index numbers.now k == k) (range_with_len 0 (length numbers.now)) }

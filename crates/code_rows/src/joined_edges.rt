@@ -7,7 +7,7 @@ ghost use Rattle.code_rows.specs.JoinedEdges.{over_from, over_to, passages_behin
 use crossing_codes::{Code, Crossing};
 
 /// Whether each edge of a code leads from exactly one passage to exactly one. There may be at most `MAX_CROSSINGS` crossings, and twice
-/// as many edges. Of a code with the rows of one without a fault this decides whether it has one (`other_signs_can_only_part_edges`).
+/// as many edges. For a code with the rows of one without a fault this decides whether it has a fault (`other_signs_can_only_part_edges`).
 pub fn are_joined(code: &Code) -> bool
     requires few { length code.now.crossings ≤ MAX_CROSSINGS }
     requires count { code.now.edges ≡ 2 * length code.now.crossings }

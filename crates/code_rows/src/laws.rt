@@ -25,7 +25,7 @@ pub fn a_part_is_numbered_by_its_least_crossing()
     ensures least { (xs : List Crossing) (j k : ℕ) → HaveOtherEnds xs → OfOnePart xs j k → part_number xs k ≤ j }
 {}
 
-/// In a code without a fault, but perhaps that of the plane, each end of an edge has another one.
+/// In a code without a fault, except perhaps that of the plane, each end of an edge has another one.
 pub fn each_end_has_another()
     ensures { (c : Code) → (first_code_fault c ≡ None) ⊎ (first_code_fault c ≡ Some CodeFault.Plane) → HaveOtherEnds c.crossings }
 {}
@@ -42,7 +42,7 @@ pub fn other_signs_can_only_part_edges()
         → IsCodeOf rows loops c → first_code_fault b ≡ None → (first_code_fault c ≡ None) ↔ AreJoined c.crossings c.edges }
 {}
 
-/// The name that is told is the least that doesn't stand exactly twice, and where none is told each stands twice.
+/// The name that a fault reports is the least that doesn't occur exactly twice; if none is reported, each occurs twice.
 pub fn the_edge_told_is_the_least()
     ensures some { (all : List ℕ) (name : ℕ) → least_unpaired all ≡ Some name → IsLeastUnpaired all name }
     ensures none { (all : List ℕ) → least_unpaired all ≡ None → (k : ℕ) → k < length all → ends_of all (slice_index all k) ≡ 2 }

@@ -14,6 +14,7 @@ mod rows_fault;
 
 pub use code_fault::{CodeFault, MAX_CROSSINGS, first_fault};
 pub use code_from::code_of_rows;
+pub use code_map::own_places;
 pub use joined_edges::are_joined;
 pub use row::CodeRow;
 pub use rows_fault::RowsFault;

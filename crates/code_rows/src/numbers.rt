@@ -61,7 +61,7 @@ fn edge_number(names: &[u32], name: u32) -> u32
     (ends_below(names, name) / 2 + 1) as u32
 }
 
-/// At how many ends lesser names stand.
+/// At how many ends lesser names are.
 fn ends_below(names: &[u32], name: u32) -> usize
     ensures below { result ≡ count_by (λ m. nat_lt m name) names.now }
     ensures few { result ≤ length names.now }

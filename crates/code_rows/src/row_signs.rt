@@ -20,7 +20,7 @@ pub(crate) struct Tie {
     pub(crate) turned: bool,
 }
 
-/// A sign for each row, whose edges are numbered: where any signs make each edge lead from one passage to one, these do. Else they do so for
+/// A sign for each row, whose edges are numbered: where any signs make each edge lead from one passage to one, these do. Otherwise they do so for
 /// the least edges, up to one with which no signs do. A component that only passes over goes from its least edge to the lesser of the two next
 /// to it; where these are one, through the earlier of the two rows. There may be at most `MAX_CROSSINGS` rows.
 pub(crate) fn signs_of(alloc: Global, rows: &[CodeRow]) -> Result<Vec<bool>, OutOfMemory>
@@ -73,7 +73,7 @@ fn join(ties: &mut [Tie], names: &[u32], edge: u32)
     part(ties, first, second);
 }
 
-/// The first end from this one on at which an edge stands; their number where there is none.
+/// The first end from this one on at which an edge is; their number where there is none.
 fn end_from(names: &[u32], from: usize, edge: u32) -> usize
     requires { from ≤ length names.now }
     ensures within { (from ≤ result) × (result ≤ length names.now) }
@@ -156,7 +156,7 @@ fn turned_by(turn: bool, value: bool) -> bool
     if turn { !value } else { value }
 }
 
-/// Values for the roots, such that each component that only passes over takes the way that its least edge tells.
+/// Values for the roots, such that each component that only passes over takes the way that its least edge gives.
 fn values_of(alloc: Global, ties: &[Tie], names: &[u32]) -> Result<Vec<bool>, AllocError>
     requires { length names.now ≤ 4 * MAX_CROSSINGS }
 {
@@ -169,7 +169,7 @@ fn values_of(alloc: Global, ties: &[Tie], names: &[u32]) -> Result<Vec<bool>, Al
     Ok(values)
 }
 
-/// The end at which an edge comes to a crossing, where its component only passes over: behind it lies the lesser edge.
+/// The end at which an edge comes to a crossing, where its component only passes over: after it lies the lesser edge.
 fn way_of(names: &[u32], edge: u32) -> usize {
     let one = end_from(names, 0, edge);
     if one >= names.len() {

@@ -5,14 +5,14 @@ ghost use Rattle.code_rows.specs.RowsFault.{ends_of, lesser, least_unpaired, unp
 
 use crate::row::CodeRow;
 
-/// Why rows are no code of a diagram in the plane: the first of these that holds. Edges are told by their names.
+/// Why rows are no code of a diagram in the plane: the first of these that holds. Edges are given by their names.
 #[derive(Clone, Copy, Debug, PartialEq, Eq)]
 pub enum RowsFault {
     /// There is no row and no loop.
     Empty,
-    /// This name is the least that doesn't stand exactly twice.
+    /// This name is the least that doesn't occur exactly twice.
     Edge { edge: u32 },
-    /// Whatever the signs, strands run against each other on some edge; this one is the least up to which none fit.
+    /// Whatever the signs, strands run against each other on some edge; this is the least edge such that no signs fit all edges up to it.
     Direction { edge: u32 },
     /// Strands have directions, but the faces are not as many as the crossings and twice the connected parts.
     Plane,
@@ -32,7 +32,7 @@ pub(crate) fn unpaired(rows: &[CodeRow], names: &[u32], loops: u32) -> Option<Ro
     }
 }
 
-/// The least name that stands at other than two ends.
+/// The least name that is at other than two ends.
 pub(crate) fn least_unpaired(names: &[u32]) -> Option<u32>
     ensures { result ≡ least_unpaired names.now }
 {
@@ -56,7 +56,7 @@ fn after_name(names: &[u32], least: Option<u32>, name: u32) -> Option<u32>
     }
 }
 
-/// At how many ends a name stands.
+/// At how many ends a name is.
 pub(crate) fn ends_of(names: &[u32], name: u32) -> usize
     ensures { result ≡ ends_of names.now name }
 {

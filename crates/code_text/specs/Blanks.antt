@@ -9,5 +9,6 @@ is_parting b = (b == 91) || ((b == 93) || ((b == 40) || ((b == 41) || ((b == 123
 abbrev pub blank_for : ℕ → ℕ
 blank_for b = if is_parting b then 32 else b
 
+-- the bytes, with a space for each that parts numbers
 abbrev pub blanked : List ℕ → List ℕ
 blanked bytes = map blank_for bytes

@@ -15,6 +15,7 @@ crossing_of xs p = slice_index_or xs (p.crossing - 1) no_crossing
 abbrev pub comes_on : Crossing → Bool → ℕ
 comes_on x over = if over then over_from x else x.first
 
+-- the edge on which the strand leaves a crossing over or under
 abbrev pub leaves_on : Crossing → Bool → ℕ
 leaves_on x over = if over then over_to x else x.third
 

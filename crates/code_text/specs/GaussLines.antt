@@ -30,7 +30,7 @@ abbrev pub passage_of : List ℕ → Option GaussPassage
 passage_of [] = None
 passage_of (kind ∷ rest) = passage_by (over_of kind) (number_of (take (length rest - 1) rest)) (sign_of (drop (length rest - 1) rest))
 
--- its number is above those of crossings
+-- the number of a passage is above those of crossings
 abbrev pub is_beyond : GaussPassage → Bool
 is_beyond p = nat_lt MAX_CROSSINGS p.crossing
 
@@ -46,7 +46,7 @@ walk_at line = do
   passages ← each_token passage_of rest.number rest.tokens
   some_passages rest.number passages
 
--- those of all lines up to the first that doesn't begin with `gauss`, behind what was read before
+-- the passages of all lines up to the first that doesn't begin with `gauss`, behind what was read before
 abbrev pub walks_among : List (List GaussPassage) → List NumberedLine → ℕ → Result (List (List GaussPassage) × Text) TextFault
 walks_among before [] ending = Ok (before, record { lines = []; ending = ending })
 walks_among before (line ∷ lines) ending =

@@ -10,6 +10,7 @@ abbrev pub sign_by : List GaussPassage → ℕ → Bool → Bool
 sign_by [] k sign = sign
 sign_by (p ∷ ps) k sign = if p.crossing == k then p.positive else sign_by ps k sign
 
+-- the crossing at place k, counted from 0, is positive
 abbrev pub positive_at : List Crossing → ℕ → Bool
 positive_at xs k = (slice_index_or xs k no_crossing).positive
 

@@ -61,7 +61,7 @@ fn most_rows(due: Option<u32>) -> usize
     }
 }
 
-/// Whether there are as many rows as were told.
+/// Whether there are as many rows as were announced.
 fn are_due(due: Option<u32>, rows: &[CodeRow]) -> bool
     ensures { result ≡ are_due due rows.now }
 {
@@ -81,7 +81,7 @@ fn next_number(lines: &mut Lines) -> usize
     }
 }
 
-/// The rows, and how many they are where that is told.
+/// The rows, and how many they are if that is announced.
 #[tactic(auto, unfolding(crate::specs::CodeReading::rows_item))]
 fn rows_item(alloc: Global, lines: &mut Lines) -> Result<Vec<CodeRow>, TextFault>
     ensures rows { Gives (λ v. (v.items, lines.new)) result (rows_item lines.old) }
@@ -97,7 +97,7 @@ fn rows_item(alloc: Global, lines: &mut Lines) -> Result<Vec<CodeRow>, TextFault
     Ok(rows)
 }
 
-/// Signed Gauss lines, which stand behind rows alone.
+/// Signed Gauss lines, which follow rows alone.
 fn walks_behind(
     alloc: Global,
     rows: &[CodeRow],
@@ -111,11 +111,11 @@ fn walks_behind(
     walks_from(alloc, lines)
 }
 
-/// The text of a code, and nothing behind it: the line `crossings` with their number, which may lack; rows, four numbers each;
-/// the line `loops` with their number, which may lack; and signed Gauss lines, of which there may be none. Brackets, commas and
-/// semicolons count as blanks, and the words `X` and `PD` say nothing.
+/// The text of a code, and nothing after it: the line `crossings` with their number, which may be missing; rows, four numbers each;
+/// the line `loops` with their number, which may be missing; and signed Gauss lines, of which there may be none. Brackets, commas and
+/// semicolons count as blanks, and the words `X` and `PD` are ignored.
 ///
-/// Else the fault of the first bad line, or want of memory. Whether it is the code of a diagram is not asked.
+/// Otherwise the fault of the first bad line, or `OutOfMemory`. Whether it is the code of a diagram is not checked.
 #[tactic(auto, unfolding(crate::specs::CodeReading::code_in))]
 pub fn read_code(alloc: Global, bytes: &[u8]) -> Result<CodeText, TextFault>
     ensures code { Gives (λ c. c) result (code_text_of bytes.now) }

@@ -22,7 +22,7 @@ pub struct GaussPassage {
     pub positive: bool,
 }
 
-/// Whether a byte says over, or under.
+/// Whether the strand is the one over: `O` says that it is, `U` that it isn't, and any other byte nothing.
 fn over_of(byte: u8) -> Option<bool>
     ensures { result ≡ over_of byte }
 {
@@ -35,7 +35,7 @@ fn over_of(byte: u8) -> Option<bool>
     }
 }
 
-/// Whether these bytes say a positive sign, or a negative one.
+/// Whether a sign is positive: `+` says that it is, `-` that it isn't, and any other bytes nothing.
 fn sign_of(bytes: &[u8]) -> Option<bool>
     ensures { result ≡ sign_of bytes.now }
 {

@@ -1,5 +1,5 @@
 //! Texts of planar diagram codes: rows as other programs print them, loops, and signed Gauss lines; and grid diagrams of them.
-//! A text is read exactly as its definition says, and a grid's own code is the one that the text says, under other names.
+//! A text is read exactly as its definition says, and the code of the grid is that of the text, under other names.
 #![tactic(auto)]
 
 mod blanks;

@@ -10,8 +10,8 @@ pub enum TextRefusal {
     Rows(RowsFault),
     /// The rows have no fault, and the signed Gauss lines are not theirs, whatever the signs.
     Gauss,
-    /// The drawing needs this many columns, which are more than a grid may have; another may need fewer. Of the number a clause says only
-    /// that it is over 48.
+    /// The drawing needs this many columns, which are more than a grid may have; another may need fewer. Of the number it is proved
+    /// only that it is over 48.
     Columns {
         /// How many.
         columns: usize,

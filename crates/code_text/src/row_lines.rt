@@ -9,7 +9,7 @@ use std::alloc::{AllocError, Global};
 use text_items::{TextFault, any_long};
 use text_lines::{Line, Lines, number};
 
-/// Whether a token is none of the words that say nothing.
+/// Whether a token says something: it is neither `X` nor `PD`.
 fn says_something(token: &[u8]) -> bool
     ensures { result ≡ says_something token.now }
 {
@@ -76,14 +76,14 @@ fn push_line(
     Ok(())
 }
 
-/// Whether a line that stands behind the rows is next.
+/// Whether a line that follows the rows is next.
 fn are_behind(lines: &Lines) -> bool
     ensures { result ≡ are_behind lines.now }
 {
     lines.begins(b"loops") || lines.begins(b"gauss")
 }
 
-/// The rows of all lines up to the first that stands behind them, of which there may be so many.
+/// The rows of all lines up to the first that follows them, of which there may be so many.
 #[tactic(auto, unfolding(crate::specs::RowLines::rows_from))]
 pub(crate) fn rows_from(
     alloc: Global,

@@ -4,18 +4,20 @@ ghost use Rattle.code_rows.specs.declared.code_fault.TheConstants.{MAX_CROSSINGS
 ghost use Rattle.code_rows.specs.CodeFault.{first_code_fault};
 ghost use Rattle.code_rows.specs.Rows.{IsCodeOf};
 ghost use Rattle.code_rows.specs.RowsFault.{unpaired};
+ghost use Rattle.code_text.specs.GaussSigns.{AreSigned};
 ghost use Rattle.code_text.specs.TextGrid.{Says, HasWrongLines, IsAnswer};
 
 use crate::code_reading::CodeText;
 use crate::gauss_check::{agrees_with_gauss, all_of};
+use crate::gauss_lines::GaussPassage;
 use crate::gauss_signs::signed;
 use crate::refusal::TextRefusal;
-use code_grids::{Refusal, grid_of_code};
+use code_grids::{DrawingRefusal, grid_of_code};
 use code_rows::{are_joined, code_of_rows};
 use crossing_codes::Code;
 use grid_core::Grid;
 use memory_core::{Items, OutOfMemory};
-use std::alloc::Global;
+use std::alloc::{AllocError, Global};
 
 /// A grid diagram of what the text of a code says, or why none is answered. There may be at most `MAX_CROSSINGS` rows.
 ///
@@ -37,8 +39,8 @@ pub fn grid_of_text(
     };
     match grid_of_code(alloc, &said)? {
         Ok(drawing) => Ok(Ok(drawing.grid)),
-        Err(Refusal::Columns { columns }) => Ok(Err(TextRefusal::Columns { columns })),
-        Err(Refusal::Lost) => Ok(Err(TextRefusal::Lost)),
+        Err(DrawingRefusal::Columns { columns }) => Ok(Err(TextRefusal::Columns { columns })),
+        Err(DrawingRefusal::Lost) => Ok(Err(TextRefusal::Lost)),
     }
 }
 
@@ -56,12 +58,7 @@ fn said_by(alloc: Global, text: &CodeText, code: Code) -> Result<Option<Code>, O
         return Ok(Some(code));
     }
     let passages = all_of(alloc, walks)?;
-    let crossings = signed(alloc, passages.as_slice(), code.crossings.as_slice())?;
-    let said = Code {
-        crossings: Items::from_vec(crossings),
-        edges: code.edges,
-        loops: code.loops,
-    };
+    let said = with_signs(alloc, passages.as_slice(), &code)?;
     if !agrees_with_gauss(&said, walks, passages.as_slice()) {
         return Ok(None);
     }
@@ -69,4 +66,18 @@ fn said_by(alloc: Global, text: &CodeText, code: Code) -> Result<Option<Code>, O
         return Ok(None);
     }
     Ok(Some(said))
+}
+
+/// A code with the signs of the passages. It fails only if memory runs out.
+fn with_signs(alloc: Global, passages: &[GaussPassage], code: &Code) -> Result<Code, AllocError>
+    requires { length code.now.crossings ≤ MAX_CROSSINGS }
+    ensures crossings { IfOk result (λ said. AreSigned passages.now code.now.crossings said.crossings) }
+    ensures rest { IfOk result (λ said. (said.edges ≡ code.now.edges) × (said.loops ≡ code.now.loops)) }
+{
+    let crossings = signed(alloc, passages, code.crossings.as_slice())?;
+    Ok(Code {
+        crossings: Items::from_vec(crossings),
+        edges: code.edges,
+        loops: code.loops,
+    })
 }

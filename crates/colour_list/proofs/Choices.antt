@@ -1,5 +1,6 @@
 -- The sweep holds at most as many lists as choices of a colour for each bottom among the rows below.
-use Rattle.std.proofs.Common.{◌≡◌, ◌<◌, ◌≤◌, ◌+◌, ◌*◌, ◌^◌, ◌==◌, ◌&&◌, ◌++◌, ◌∙◌, inl, inr, ℕ, zero, suc, List, [], ◌∷◌, Bool, true, false, cond, length, map, set, take, replicate, count_by, refl, sym, ap, ap₂, subst, arith, add-one, zero-add}
+use Rattle.std.proofs.Common.{◌≡◌, ◌<◌, ◌≤◌, ◌+◌, ◌*◌, ◌^◌, ◌==◌, ◌&&◌, ◌++◌, ◌∙◌, inl, inr, ℕ, zero, suc, List, [], ◌∷◌, Bool, true, false, cond, length, map}
+use Rattle.std.proofs.Common.{set, take, replicate, count_by, refl, sym, ap, ap₂, subst, arith, add-one, zero-add}
 use Rattle.std.specs.List.{range_with_len, flat_map, All}
 use Rattle.std.proofs.Math.Nat.{pow-zero, pow-suc, zero-mul, suc-mul, mul-le-mul_right, le-mul_of_pos_right}
 use Rattle.std.proofs.lemmas.Bool.{cases_lt, leb-true}

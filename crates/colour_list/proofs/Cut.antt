@@ -1,9 +1,11 @@
 -- The level behind the highest row, cut to the columns of the diagram and sorted, is the complete list.
-use Rattle.std.proofs.Common.{◌≡◌, ◌<◌, ◌≤◌, ◌+◌, ◌-◌, ◌++◌, ◌∙◌, inl, inr, ℕ, List, Bool, true, false, cond, length, get_or, map, take, replicate, refl, sym, ap, arith}
+use Rattle.std.proofs.Common.{◌≡◌, ◌<◌, ◌≤◌, ◌+◌, ◌-◌, ◌++◌, ◌∙◌, inl, inr, ℕ, List, Bool, true, false, cond, length, get_or, map, take, replicate, refl, sym}
+use Rattle.std.proofs.Common.{ap, arith}
 use Rattle.std.specs.Prelude.{IsPermutation}
 use Rattle.std.specs.List.{All, AllPairs}
 use Rattle.std.proofs.lemmas.Bool.{both_ways, eqb-true, eq-eqb, cases_lt}
-use Rattle.std.proofs.lemmas.List.{length-replicate, length-append, length-take, get_or-replicate, get_or-take, get_or_append_left, get_or-append-add, take-append-le, take_all}
+use Rattle.std.proofs.lemmas.List.{length-replicate, length-append, length-take, get_or-replicate, get_or-take, get_or_append_left, get_or-append-add}
+use Rattle.std.proofs.lemmas.List.{take-append-le, take_all}
 use Rattle.std.proofs.lemmas.Grind.{same_number_lists}
 use Rattle.std.proofs.lemmas.List.Elements.{All-map, All-append, All-replicate, All-take, All-weaker, filter_passes}
 use Rattle.std.proofs.lemmas.List.Sorted.{All-permutation, sum_by-IsPermutation}

@@ -1,7 +1,9 @@
 -- Edits of a level, list by list.
-use Rattle.std.proofs.Common.{◌≡◌, ◌<◌, ◌≤◌, ◌+◌, ◌++◌, ◌∙◌, ℕ, List, [], ◌∷◌, Bool, true, false, length, map, take, drop, get_or, set, sym, ap, subst, arith, append_assoc, append-nil}
+use Rattle.std.proofs.Common.{◌≡◌, ◌<◌, ◌≤◌, ◌+◌, ◌++◌, ◌∙◌, ℕ, List, [], ◌∷◌, Bool, true, false, length, map, take, drop, get_or, set, sym, ap, subst, arith}
+use Rattle.std.proofs.Common.{append_assoc, append-nil}
 use Rattle.std.specs.List.{flat_map, filter, All, range_with_len}
-use Rattle.std.proofs.lemmas.List.{map-append, length-map, flat_map_more, get_or-append_right, get_or-drop, length-take, length-drop, length-append, take_more, take_all, drop_all, get_or_default}
+use Rattle.std.proofs.lemmas.List.{map-append, length-map, flat_map_more, get_or-append_right, get_or-drop, length-take, length-drop, length-append, take_more}
+use Rattle.std.proofs.lemmas.List.{take_all, drop_all, get_or_default}
 use Rattle.std.proofs.lemmas.List.Edits.{map_over_more}
 use Rattle.std.proofs.lemmas.List.Filters.{FiltersInPlace, FiltersInPlace-more_no, FiltersInPlace-more_set, FiltersInPlace-more_here, FiltersInPlace-all}
 use Rattle.std.proofs.lemmas.List.FromFn.{map-range_with_len_more}

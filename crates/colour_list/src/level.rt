@@ -47,7 +47,7 @@ fn open(colours: &mut Colours, row: &Row, quandle: &Quandle, colour: u8)
     close_right(colours, row, quandle);
 }
 
-/// Puts the list with each colour in turn at the left end behind others.
+/// Puts the list with each colour in turn at the left end after others.
 fn push_each(
     next: &mut Vec<Colours>,
     colours: &Colours,

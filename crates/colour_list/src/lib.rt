@@ -7,5 +7,5 @@ mod grouping;
 mod level;
 mod limits;
 
-pub use complete::{list, list_fitting};
+pub use complete::{in_order, list, list_fitting};
 pub use limits::{ListFault, MAX_COLOURINGS, fits};

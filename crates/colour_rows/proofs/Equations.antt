@@ -1,5 +1,6 @@
 -- The equation of a row says what the walk says.
-use Rattle.std.proofs.Common.{◌≡◌, ◌<◌, ◌+◌, ◌-◌, ◌++◌, ◌∙◌, ℕ, List, [], ◌∷◌, Bool, true, false, cond, length, map, take, get_or, reverse, refl, sym, ap, arith, fold, All}
+use Rattle.std.proofs.Common.{◌≡◌, ◌<◌, ◌+◌, ◌-◌, ◌++◌, ◌∙◌, ℕ, List, [], ◌∷◌, Bool, true, false, cond, length, map, take, get_or, reverse, refl, sym, ap}
+use Rattle.std.proofs.Common.{arith, fold, All}
 use Rattle.std.specs.List.{range_with_len, filter}
 use Rattle.std.proofs.lemmas.List.{map-append, reverse-append, get_or-reverse, length-reverse}
 use Rattle.std.proofs.lemmas.List.Sums.{fold_more}

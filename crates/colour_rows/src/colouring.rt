@@ -1,11 +1,10 @@
 //! Whether a list of colours is a colouring.
-ghost use Rattle.std.specs.Prelude.{◌≡◌, nat_lt};
-ghost use Rattle.std.specs.List.{list_all};
+ghost use Rattle.std.specs.Prelude.{◌≡◌};
 ghost use Rattle.colour_rows.specs.Colouring.{are_colours, is_colouring};
 
 use crate::walking::closes;
 use arrayvec::ArrayVec;
-use grid_core::{Grid, MAX_SIZE};
+use grid_core::{Grid, MAX_SIZE, all_below};
 use quandle_core::Quandle;
 
 /// A colour for each column, from the left. Contracts read it as its list of items.
@@ -33,11 +32,4 @@ fn are_colours(size: u8, order: u8, colours: &Colouring) -> bool
     ensures { result ≡ are_colours size order colours.now.items }
 {
     colours.len() == size as usize && all_below(colours.as_slice(), order)
-}
-
-/// Whether each colour lies below the order.
-fn all_below(colours: &[u8], order: u8) -> bool
-    ensures { result ≡ list_all (λ y. nat_lt y order) colours.now }
-{
-    colours.iter().all(|colour| *colour < order)
 }

@@ -55,7 +55,7 @@ impl Row {
         Row::by_spans(grid, &Spans::of(grid), row)
     }
 
-    /// The same row, where the spans of the grid's columns are at hand: they serve all its rows.
+    /// A row of a grid, by the spans of the grid's columns, which serve all its rows.
     pub fn by_spans(grid: &Grid, spans: &Spans, row: u8) -> Row
         requires row { row < size grid.now }
         requires spans { spans.now ≡ spans_of grid.now }

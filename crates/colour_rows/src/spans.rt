@@ -1,4 +1,4 @@
-//! The spans of a diagram's columns, packed so that one kernel tells which of them cover a row.
+//! The spans of a diagram's columns, packed so that one kernel finds which of them cover a row.
 ghost use Rattle.std.specs.Prelude.{◌≡◌, ℕ};
 ghost use Rattle.lane_spans.specs.Columns.{lane_covers, has_bit};
 ghost use Rattle.colour_rows.specs.Spans.{spans_of};

@@ -58,7 +58,7 @@ pub fn passed_leftward(quandle: &Quandle, up: bool, colour: u8, column: u8) -> u
 /// The last colour of the walk of a row, which starts with the colour of the row's left end.
 ///
 /// Under a column of colour y that covers the row strictly between its ends, x becomes `x ▷ y` where the column is down and `x ◁ y` where it is up.
-/// There is to be a colour below the order for each column, and the row is below the size.
+/// There must be a colour below the order for each column, and the row is below the size.
 pub fn walk(grid: &Grid, quandle: &Quandle, colours: &Colouring, row: u8) -> u8
     requires row { row < size grid.now }
     requires colours { AreColours (size grid.now) quandle.now.order colours.now.items }

@@ -1,4 +1,5 @@
--- Worked examples, by computing: the two trefoils, the figure eight, the unknot of two columns, two linked unknots, and an unknot beside one that passes over it.
+-- Worked examples, by computing: the two trefoils, the figure eight, the unknot of two columns, two linked unknots, and an unknot beside one that
+-- passes over it.
 use Rattle.std.proofs.Common.{◌≡◌, ◌∷◌, [], refl, true, false, map}
 use Rattle.std.specs.Prelude.{codes}
 use Rattle.std.specs.Fmt.{digits}

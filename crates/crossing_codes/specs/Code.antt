@@ -11,7 +11,8 @@ use Rattle.crossing_codes.specs.Edges.{edge_from, edge_to, loops}
 abbrev pub opposite : Direction → Direction
 opposite v = record { x = neg_ℤ v.x; y = neg_ℤ v.y }
 
--- the edges counterclockwise from that on which the strand under comes: at a positive crossing the strand over runs from the fourth to the second, at a negative one from the second to the fourth
+-- the edges counterclockwise from that on which the strand under comes: at a positive crossing the strand over runs from the fourth to the second, at
+-- a negative one from the second to the fourth
 abbrev pub crossing : Diagram → Crossed → Crossing
 crossing d at =
     let under = through false at in
@@ -27,7 +28,8 @@ crossing d at =
 -- the edge that lies in this direction from a crossing: the strand leaves on it along its own direction, and comes on it the other way
 abbrev pub LiesTowards : Diagram → Crossed → Direction → ℕ → Type 0
 LiesTowards d at v e =
-    (((v ≡ column_direction d at.column) × (e ≡ edge_to d (through true at))) ⊎ ((v ≡ opposite (column_direction d at.column)) × (e ≡ edge_from d (through true at))))
+    (((v ≡ column_direction d at.column) × (e ≡ edge_to d (through true at)))
+    ⊎ ((v ≡ opposite (column_direction d at.column)) × (e ≡ edge_from d (through true at))))
     ⊎ (((v ≡ row_direction d at.row) × (e ≡ edge_to d (through false at))) ⊎ ((v ≡ opposite (row_direction d at.row)) × (e ≡ edge_from d (through false at))))
 
 -- the four edges lie in these directions, each a quarter turn counterclockwise from the one before

@@ -17,7 +17,8 @@ crossing_line x =
 -- the number of crossings, the crossings, and the number of loops
 abbrev pub pd_text : Code → List ℕ
 pd_text code =
-    codes "crossings " ++ (decimal (length code.crossings) ++ (codes "\n" ++ (flat_map crossing_line code.crossings ++ (codes "loops " ++ (decimal code.loops ++ codes "\n")))))
+    codes "crossings " ++ (decimal (length code.crossings) ++ (codes "\n"
+    ++ (flat_map crossing_line code.crossings ++ (codes "loops " ++ (decimal code.loops ++ codes "\n")))))
 
 -- the number of the crossing at column c and row r, from 1
 abbrev pub crossing_number : Diagram → ℕ → ℕ → ℕ

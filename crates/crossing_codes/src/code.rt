@@ -24,7 +24,7 @@ use memory_core::{Items, OutOfMemory};
 use std::alloc::{AllocError, Global};
 
 /// The code of a grid: its crossings by row from the lowest, and in a row by column from the left, and how many edges and
-/// loops it has; or want of memory. For every quandle the edge colours of each colouring of the grid are a colouring of the
+/// loops it has; or `OutOfMemory`. For every quandle the edge colours of each colouring of the grid are a colouring of the
 /// code, and each colouring of the code is the edge colours of exactly one colouring of the grid.
 pub fn code_of(alloc: Global, grid: &Grid) -> Result<Code, OutOfMemory>
     ensures code { IfOk result (λ c. c ≡ code grid.now) }

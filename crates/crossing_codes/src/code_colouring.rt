@@ -1,16 +1,17 @@
 //! Colourings of codes.
-ghost use Rattle.std.specs.Prelude.{◌≡◌, ◌<◌, ◌≤◌, ◌+◌, ◌&&◌, length, nat_lt, true};
-ghost use Rattle.std.specs.List.{All, list_all};
+ghost use Rattle.std.specs.Prelude.{◌≡◌, ◌<◌, ◌≤◌, ◌+◌, ◌&&◌, length, true};
+ghost use Rattle.std.specs.List.{All};
 ghost use Rattle.colour_rows.specs.Colouring.{are_colours};
 ghost use Rattle.crossing_codes.specs.CodeColouring.{is_code_colouring, names_edges, is_edge, agrees, edge_colour};
 
 use crate::crossing::{Code, Crossing};
+use grid_core::all_below;
 use quandle_core::Quandle;
 
 /// Whether the list has a colour below the order for each of the edges 1, 2, .. and then for each loop, such that at each crossing
 /// the strand over keeps its colour, and the strand under goes from x to `x ▷ y` where it passes from the right of a strand of colour y to its left.
 ///
-/// Also false where the number of colours is another, a colour is not below the order, or a crossing names an edge that the code has not.
+/// Also false where the number of colours is another, a colour is not below the order, or a crossing names an edge that the code doesn't have.
 pub fn is_code_colouring(code: &Code, quandle: &Quandle, colours: &[u8]) -> bool
     ensures { result ≡ is_code_colouring quandle.now code.now colours.now }
 {
@@ -32,14 +33,7 @@ fn are_colours(code: &Code, order: u8, colours: &[u8]) -> bool
     colours.len() == code.edges as usize + code.loops as usize && all_below(colours, order)
 }
 
-/// Whether each colour lies below the order.
-fn all_below(colours: &[u8], order: u8) -> bool
-    ensures { result ≡ list_all (λ y. nat_lt y order) colours.now }
-{
-    colours.iter().all(|colour| *colour < order)
-}
-
-/// Whether a crossing names edges from 1 to their number alone.
+/// Whether a crossing names only edges from 1 to their number.
 pub fn names_edges(edges: u32, crossing: &Crossing) -> bool
     ensures { result ≡ names_edges edges crossing.now }
 {

@@ -17,8 +17,9 @@ use std::alloc::{AllocError, Global};
 
 /// The colours of edges 1, 2, .. of the grid's code, and then of its loops, that a colouring of the grid gives.
 ///
-/// An edge that has a part of a column has the column's colour, one that lies wholly in a row has the colour of the row's walk at that place, and a loop has the colour of its columns.
-/// The colours are to be a colouring of the grid.
+/// An edge that has a part of a column has the column's colour, one that lies wholly in a row has the colour of the row's walk at that place, and a
+/// loop has the colour of its columns.
+/// The colours must be a colouring of the grid.
 pub fn edge_colours(
     alloc: Global,
     grid: &Grid,

@@ -1,5 +1,6 @@
 //! Laws of crossing codes, over the definitions alone.
-ghost use Rattle.std.specs.Prelude.{◌≡◌, ◌<◌, ◌≤◌, ◌+◌, ◌*◌, ◌++◌, ◌↔◌, ◌⊎◌, ℕ, Bool, true, false, List, [], map, take, codes, decimal, flat_map, length, pos, negsuc, slice_index, slice_index_or, Contains, IsTrue, IsPermutation, if◌then◌else◌};
+ghost use Rattle.std.specs.Prelude.{◌≡◌, ◌<◌, ◌≤◌, ◌+◌, ◌*◌, ◌++◌, ◌↔◌, ◌⊎◌, ℕ, Bool, true, false, List, [], map, take, codes, decimal, flat_map};
+ghost use Rattle.std.specs.Prelude.{length, pos, negsuc, slice_index, slice_index_or, Contains, IsTrue, IsPermutation, if◌then◌else◌};
 ghost use Rattle.std.specs.List.{range_with_len, AllPairs};
 ghost use Rattle.grid_core.specs.declared.mark.Kind.TheVariants.{Cross, Ring};
 ghost use Rattle.grid_core.specs.Diagram.{Diagram, IsGrid, size, row_of};
@@ -21,7 +22,8 @@ ghost use Rattle.crossing_codes.specs.Printed.{crossing_line, pd_text, passage_t
 ghost use Rattle.crossing_codes.specs.CodeColouring.{edge_colour, is_code_colouring, code_colourings};
 ghost use Rattle.crossing_codes.specs.EdgeColouring.{edge_colours, place_where_column_begins};
 
-/// The edge colours of each colouring are a colouring of the code, and each colouring of the code is the edge colours of exactly one colouring. So there are as many.
+/// The edge colours of each colouring are a colouring of the code, and each colouring of the code is the edge colours of exactly one colouring. So
+/// there are as many.
 pub fn code_colourings_are_the_colourings()
     ensures one_to_one { (t : Table) (d : Diagram) → IsQuandle t → IsGrid d
         → IsBijection (IsColouring t d) (λ edges. is_code_colouring t (code d) edges ≡ true) (edge_colours t d) }
@@ -41,7 +43,7 @@ pub fn a_column_has_the_colour_of_its_edges()
         → edge_colour (edge_colours t d colours) (edge_to d (through true at)) ≡ slice_index colours at.column }
 {}
 
-/// A crossing stands exactly where a column crosses a row of the diagram: it covers the row, and lies strictly between the row's ends.
+/// There is a crossing exactly where a column crosses a row of the diagram: it covers the row, and lies strictly between the row's ends.
 pub fn where_crossings_stand()
     ensures { (d : Diagram) (at : Crossed)
         → Contains (crossings d) at ↔ ((at.row < size d) × (crosses d at.column at.row ≡ true)) }
@@ -59,7 +61,7 @@ pub fn each_crossing_is_passed_twice()
     ensures count { (d : Diagram) → IsGrid d → length (passages d) ≡ 2 * length (crossings d) }
 {}
 
-/// Crossings stand by row from the lowest, and in a row by column from the left.
+/// Crossings are listed by row from the lowest, and in a row by column from the left.
 pub fn crossings_stand_by_row_and_column()
     ensures { (d : Diagram) → AllPairs (λ (a b : Crossed). (a.row < b.row) ⊎ ((a.row ≡ b.row) × (a.column < b.column))) (crossings d) }
 {}
@@ -82,8 +84,8 @@ pub fn passages_follow_the_strand()
         → Contains (along_row d r) p ↔ ((p.over ≡ false) × (p.row ≡ r) × IsTrue (crosses d p.column r)) }
 {}
 
-/// An edge is a piece of a strand: from the passage that leads to it one comes, from cell to cell, to the one that it leads to,
-/// and meets no crossing before.
+/// An edge is a piece of a strand: from the passage that leads to it, one follows the strand from cell to cell to the one that it leads
+/// to, and meets no crossing on the way.
 pub fn an_edge_has_no_crossing_on_its_way()
     ensures { (d : Diagram) (p q : Passage) → IsGrid d → Contains (passages d) p → Contains (passages d) q
         → edge_to d p ≡ edge_from d q
@@ -98,7 +100,7 @@ pub fn each_edge_lies_between_two_passages()
 {}
 
 /// The edges of a component are consecutive, and lie between its passages in their order, the last of which leads back to the first edge.
-/// They come behind those of the components with lesser starts.
+/// They come after those of the components with lesser starts.
 pub fn the_edges_of_a_component_are_consecutive()
     ensures comes { (d : Diagram) (s : ℕ) → IsGrid d → Contains (component_starts d) s
         → map (edge_from d) (passages_from d s) ≡ range_with_len (edges_before d s + 1) (length (passages_from d s)) }
@@ -106,14 +108,14 @@ pub fn the_edges_of_a_component_are_consecutive()
         → map (edge_to d) (passages_from d s) ≡ leads_to (edges_before d s) (length (passages_from d s)) }
 {}
 
-/// The edges of a crossing in its code stand counterclockwise, from the one on which the strand under comes: this one lies
+/// The edges of a crossing in its code are listed counterclockwise, from the one on which the strand under comes: this one lies
 /// against the direction of the row, and each other one a quarter turn further.
 pub fn the_edges_of_a_crossing_stand_counterclockwise()
     ensures { (d : Diagram) (at : Crossed) → AreCounterclockwise d at (opposite (row_direction d at.row)) (crossing d at) }
 {}
 
 /// Of the two passages of a crossing the one printed `O` comes on the second or fourth edge of the crossing in its code, which are
-/// the strand's over, and the one printed `U` on the first.
+/// those of the strand over, and the one printed `U` on the first.
 pub fn the_text_tells_over_from_under()
     ensures over { (d : Diagram) (at : Crossed)
         → (take 1 (passage_token d (through true at)) ≡ codes "O")
@@ -122,7 +124,7 @@ pub fn the_text_tells_over_from_under()
         → (take 1 (passage_token d (through false at)) ≡ codes "U") × (edge_from d (through false at) ≡ (crossing d at).first) }
 {}
 
-/// The number by which the Gauss text names a crossing is that of its line in the text of the code, counted from 1 behind the first
+/// The number by which the Gauss text names a crossing is that of its line in the text of the code, counted from 1 after the first
 /// line, and the sign that it prints is the crossing's.
 pub fn the_texts_name_crossings_alike()
     ensures number { (d : Diagram) (over : Bool) (at : Crossed) → IsGrid d → Contains (crossings d) at

@@ -136,7 +136,7 @@ fn push_crossing(out: &mut Vec<u8>, crossing: &Crossing) -> Result<(), AllocErro
     push_edge(out, crossing.fourth, b"]\n")
 }
 
-/// Appends an edge and what stands behind it.
+/// Appends an edge and what follows it.
 fn push_edge(out: &mut Vec<u8>, edge: u32, behind: &[u8]) -> Result<(), AllocError>
     ensures { OnOk result (out.new.items ≡ out.old.items ++ (decimal edge ++ behind.now)) }
 {

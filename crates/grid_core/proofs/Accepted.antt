@@ -1,7 +1,9 @@
 -- Lists without a fault are a grid, and a grid has none.
-use Rattle.std.proofs.Common.{◌≡◌, ◌≢◌, ◌<◌, ◌≤◌, ◌∙◌, ◌==◌, ◌||◌, ◌&&◌, ℕ, List, Bool, true, false, not, cond, Option, Some, None, length, get_or, take, slice_index, nat_lt, nat_le, arith, sym, refl, ap, ap₂, inl, inr, zero-add}
+use Rattle.std.proofs.Common.{◌≡◌, ◌≢◌, ◌<◌, ◌≤◌, ◌∙◌, ◌==◌, ◌||◌, ◌&&◌, ℕ, List, Bool, true, false, not, cond, Option, Some, None, length, get_or, take}
+use Rattle.std.proofs.Common.{slice_index, nat_lt, nat_le, arith, sym, refl, ap, ap₂, inl, inr, zero-add}
 use Rattle.std.specs.List.{range_with_len, position_or_len}
-use Rattle.std.proofs.lemmas.Bool.{lt-ltb, le-ltb, ltb-false, cases_order, leb-false, eqb-false, eqb-true, leb-true, ne_eqb, lt-leb, le-leb, eq-eqb, or_parts, or_from, not-false, and_parts, cond-false}
+use Rattle.std.proofs.lemmas.Bool.{lt-ltb, le-ltb, ltb-false, cases_order, leb-false, eqb-false, eqb-true, leb-true, ne_eqb, lt-leb, le-leb, eq-eqb, or_parts}
+use Rattle.std.proofs.lemmas.Bool.{or_from, not-false, and_parts, cond-false}
 use Rattle.std.proofs.lemmas.List.{get_or-take, length-take, get_or_default}
 use Rattle.std.proofs.lemmas.List.Folds.{list_any_none, list_any_at}
 use Rattle.std.proofs.lemmas.List.FromFn.{get_or-range_with_len, length-range_with_len}

@@ -1,5 +1,6 @@
 -- The marks of a grid, and a grid from its marks.
-use Rattle.std.proofs.Common.{◌⊎◌, inl, inr, ◌==◌, Some, None, cond, ◌≡◌, ◌≢◌, ◌<◌, ◌≤◌, ◌∷◌, ◌∙◌, [], ℕ, zero, suc, List, length, get_or, arith, sym, refl, ap, ap₂}
+use Rattle.std.proofs.Common.{◌⊎◌, inl, inr, ◌==◌, Some, None, cond, ◌≡◌, ◌≢◌, ◌<◌, ◌≤◌, ◌∷◌, ◌∙◌, [], ℕ, zero, suc, List, length, get_or, arith, sym, refl, ap}
+use Rattle.std.proofs.Common.{ap₂}
 use Rattle.std.specs.List.{zip}
 use Rattle.std.proofs.lemmas.List.{ext_get_or, get_or_default}
 use Rattle.grid_core.specs.declared.grid.TheConstants.{MAX_SIZE}

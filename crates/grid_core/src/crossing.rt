@@ -16,9 +16,10 @@ impl Grid {
         self.covers(c, r) && ends.low < c && c < ends.high
     }
 
-    /// The sign, 1 or -1, of the crossing of a column over a row: that of `ox * uy - oy * ux`, for the direction `(ox, oy)` of the column and `(ux, uy)` of the row.
+    /// The sign, 1 or -1, of the crossing of a column over a row: that of `ox * uy - oy * ux`, for the direction `(ox, oy)` of the column and `(ux,
+    /// uy)` of the row.
     ///
-    /// Whether the column does cross the row isn't looked at.
+    /// Whether the column does cross the row isn't checked.
     pub fn sign(&self, c: u8, r: u8) -> i32
         requires column { c < size self.now }
         requires row { r < size self.now }

@@ -60,7 +60,7 @@ impl Grid {
         Ok(Grid::of_rows(rows_from(x), rows_from(o)))
     }
 
-    /// The grid of these rows by column, which are known to be one: `new` is the test.
+    /// The grid of these rows by column, which must be those of a grid: `new` checks that.
     pub fn of_rows(x: Rows, o: Rows) -> Grid
         requires { IsGrid (record { x = x.items; o = o.items }) }
         ensures { result ≡ record { x = x.items; o = o.items } }
@@ -68,7 +68,7 @@ impl Grid {
         Grid { x, o }
     }
 
-    /// Puts these rows by column, which are known to make a grid, in the place of its own.
+    /// Replaces its rows by column by these, which must be those of a grid.
     pub fn set_rows(&mut self, x: Rows, o: Rows)
         requires { IsGrid (record { x = x.items; o = o.items }) }
         ensures { self.new ≡ record { x = x.items; o = o.items } }
@@ -77,7 +77,7 @@ impl Grid {
         self.o = o;
     }
 
-    /// The same grid again. Takes no memory.
+    /// A copy of the grid. Takes no memory.
     pub fn copy(&self) -> Self
         ensures { result ≡ self.now }
     {

@@ -9,7 +9,7 @@ mod mark;
 mod parts;
 mod span;
 
-pub use fault::{GridFault, is_repeated};
+pub use fault::{GridFault, all_below, is_repeated};
 pub use grid::{Grid, MAX_SIZE, Rows};
 pub use mark::{Corner, Kind};
 pub use span::Span;

@@ -63,7 +63,7 @@ impl Grid {
         span.low < r && r < span.high
     }
 
-    /// Whether a column is up: its X lies below its O. Else it is down.
+    /// Whether a column is up: its X lies below its O. Otherwise it is down.
     pub fn is_up(&self, c: u8) -> bool
         requires { c < size self.now }
         ensures { result ≡ is_up self.now c }

@@ -7,21 +7,14 @@ use Rattle.text_items.specs.declared.fault.TextFault.{TextFault}
 use Rattle.text_items.specs.declared.fault.TextFault.TheVariants.{Limit}
 use Rattle.text_items.specs.declared.quandles.TheConstants.{MAX_QUANDLES}
 use Rattle.text_items.specs.Reading.{◌>>=◌, next_line, text_end, word}
-use Rattle.text_items.specs.Quandles.{written_at, quandle_at, built_in}
+use Rattle.text_items.specs.Quandles.{written_at, large_quandle_item, built_in}
 use Rattle.evidence_core.specs.declared.blocks.Block.{Block}
 use Rattle.number_text.specs.BlockCocycles.{cocycle_or_none}
-
--- a quandle, of an order of at most the first number where it is by a table
-unfoldable pub block_quandle : ℕ → Text → Result (NamedQuandle × Text) TextFault
-block_quandle most text = do
-  line ← next_line text
-  rest ← word (codes "quandle") line.0
-  quandle_at most rest line.1
 
 -- a quandle, of an order of at most the first number where it is by a table, and perhaps a cocycle of it
 unfoldable pub block_item : ℕ → Text → Result (Block × Text) TextFault
 block_item most text = do
-  quandle ← block_quandle most text
+  quandle ← large_quandle_item most text
   cocycle ← cocycle_or_none quandle.0.table quandle.1
   Ok (record { listed = quandle.0; cocycle = cocycle.0 }, cocycle.1)
 

@@ -1,4 +1,4 @@
-//! What may stand behind the quandle of a block: a cocycle of it, which may look at regions too.
+//! What may follow the quandle of a block: a cocycle of it, which may look at regions too.
 ghost use Rattle.std.specs.Prelude.{◌≡◌};
 ghost use Rattle.text_items.specs.Reading.{Gives};
 ghost use Rattle.number_text.specs.BlockCocycles.{cocycle_or_none};
@@ -32,8 +32,8 @@ fn cocycle_or_none(
     Ok(None)
 }
 
-/// Of a block's quandle a 2-cocycle where a line that begins with `weight` is next, a shadow cocycle where it begins with `shadow`, or nothing.
-/// Else the fault of the first bad line, or want of memory.
+/// A cocycle of a block's quandle: a 2-cocycle if the next line begins with `weight`, a shadow cocycle if it begins with `shadow`; or nothing.
+/// Otherwise the fault of the first bad line, or `OutOfMemory`.
 pub fn perhaps_cocycle(
     alloc: Global,
     listed: &LargeListed,

@@ -4,7 +4,7 @@ ghost use Rattle.quandle_core.specs.declared.operations.TheConstants.{MAX_LARGE_
 ghost use Rattle.text_items.specs.Reading.{Gives};
 ghost use Rattle.text_items.specs.Quandles.{built_in};
 ghost use Rattle.text_items.specs.declared.fault.TextFault.TheVariants as fault;
-ghost use Rattle.number_text.specs.Blocks.{alone, block_quandle, block_item, surplus_block, blocks, block_list, blocks_of};
+ghost use Rattle.number_text.specs.Blocks.{alone, block_item, surplus_block, blocks, block_list, blocks_of};
 
 use crate::block_cocycles::perhaps_cocycle;
 use evidence_core::Block;
@@ -12,29 +12,18 @@ use memory_core::Items;
 use quandle_core::MAX_LARGE_ORDER;
 use std::alloc::Global;
 use text_items::reading::{next_line, text_end, word};
-use text_items::{MAX_QUANDLES, TextFault, built_in, large_quandle_at, written_at};
+use text_items::{MAX_QUANDLES, TextFault, built_in, large_quandle_item, written_at};
 use text_lines::Lines;
 use verdict_core::{LargeListed, Listed};
 
-/// A quandle, of an order of at most `most` where it is by a table.
-#[tactic(auto, unfolding(crate::specs::Blocks::block_quandle))]
-fn block_quandle(alloc: Global, most: usize, lines: &mut Lines) -> Result<LargeListed, TextFault>
-    requires { most ≤ MAX_LARGE_ORDER }
-    ensures { Gives (λ q. (q, lines.new)) result (block_quandle most lines.old) }
-{
-    let mut line = next_line(lines)?;
-    word(&mut line, b"quandle")?;
-    large_quandle_at(alloc, most, &mut line, lines)
-}
-
-/// A quandle, of an order of at most `most` where it is by a table, and behind it perhaps a cocycle of the quandle.
-/// Else the fault of the first bad line, or want of memory.
+/// A quandle, of an order of at most `most` if it is by a table, and perhaps a cocycle of the quandle after it.
+/// Otherwise the fault of the first bad line, or `OutOfMemory`.
 #[tactic(auto, unfolding(crate::specs::Blocks::block_item))]
 pub fn block_item(alloc: Global, most: usize, lines: &mut Lines) -> Result<Block, TextFault>
     requires { most ≤ MAX_LARGE_ORDER }
     ensures { Gives (λ b. (b, lines.new)) result (block_item most lines.old) }
 {
-    let listed = block_quandle(alloc, most, lines)?;
+    let listed = large_quandle_item(alloc, most, lines)?;
     let cocycle = perhaps_cocycle(alloc, &listed, lines)?;
     Ok(Block { listed, cocycle })
 }
@@ -51,7 +40,7 @@ fn surplus_block(lines: &mut Lines) -> Result<Vec<Block>, TextFault>
     Err(TextFault::Limit { line: at })
 }
 
-/// All blocks up to the first line behind one that does not begin with `quandle`, of orders of at most `most` where they are by tables.
+/// All blocks up to the first line after one that does not begin with `quandle`, of orders of at most `most` where they are by tables.
 fn blocks(alloc: Global, most: usize, lines: &mut Lines) -> Result<Vec<Block>, TextFault>
     requires { most ≤ MAX_LARGE_ORDER }
     ensures { Gives (λ v. (v.items, lines.new)) result (blocks most MAX_QUANDLES lines.old) }
@@ -69,7 +58,7 @@ fn blocks(alloc: Global, most: usize, lines: &mut Lines) -> Result<Vec<Block>, T
     Ok(blocks)
 }
 
-/// The blocks that stand for an empty list: the built-in quandles, each alone.
+/// The blocks that take the place of an empty list: the built-in quandles, each alone.
 fn built_in_blocks(alloc: Global) -> Result<Vec<Block>, TextFault>
     ensures ok { IfOk result (λ v. v.items ≡ map alone built_in) }
     ensures err { IfErr result (λ e. e ≡ fault.OutOfMemory) }
@@ -105,10 +94,10 @@ pub(crate) fn block_list(alloc: Global, lines: &mut Lines) -> Result<Items<Block
     Ok(Items::from_vec(blocks))
 }
 
-/// All blocks of a text of blocks alone, at most `MAX_QUANDLES`, of orders of at most `MAX_LARGE_ORDER` where they are by tables: none stand for
-/// an empty list.
+/// All blocks of a text of blocks alone, at most `MAX_QUANDLES`, of orders of at most `MAX_LARGE_ORDER` if they are by tables; a text without
+/// blocks gives an empty list.
 ///
-/// Else the fault of the first bad line, or want of memory.
+/// Otherwise the fault of the first bad line, or `OutOfMemory`.
 #[tactic(auto, unfolding(crate::specs::Blocks::blocks_in))]
 pub fn read_blocks(alloc: Global, bytes: &[u8]) -> Result<Items<Block>, TextFault>
     ensures { Gives (λ b. b) result (blocks_of bytes.now) }

@@ -94,7 +94,7 @@ fn head_at(line: &mut Line) -> Result<(), TextFault>
     }
 }
 
-/// The line `certificate 3`, and the evidence by numbers behind it. Else the fault of the first bad line, or want of memory.
+/// The line `certificate 3`, and the evidence by numbers after it. Otherwise the fault of the first bad line, or `OutOfMemory`.
 #[tactic(auto, unfolding(crate::specs::Evidence::third_item))]
 pub fn third_item(alloc: Global, lines: &mut Lines) -> Result<Evidence, TextFault>
     ensures { Gives (λ e. (e, lines.new)) result (third_item lines.old) }

@@ -14,9 +14,9 @@ use text_items::reading::{MAX_NUMBER, last_count, next_line, word};
 use text_items::{TextFault, any_long, letter, number_list};
 use text_lines::{Line, Lines};
 
-/// The word `numbers`, and so many numbers.
+/// The word `numbers`, and `count` numbers. Otherwise the fault of the line, or `OutOfMemory`.
 #[tactic(auto, unfolding(crate::specs::Evidence::numbers_line_at))]
-pub fn numbers_at(alloc: Global, count: u8, line: &mut Line) -> Result<Vec<u32>, TextFault>
+pub fn numbers_line_at(alloc: Global, count: u8, line: &mut Line) -> Result<Vec<u32>, TextFault>
     ensures { Gives (λ v. v.items) result (numbers_line_at count line.old) }
 {
     word(line, b"numbers")?;
@@ -31,7 +31,7 @@ pub fn numbers_at(alloc: Global, count: u8, line: &mut Line) -> Result<Vec<u32>,
     Ok(list)
 }
 
-/// The word `seeds`, and at most `MAX_SIZE` numbers; one above 254 is read as 255, which is no column.
+/// The word `seeds`, and at most `MAX_SIZE` numbers; one above 254 is read as 255, which is no column. Otherwise the fault of the line.
 #[tactic(auto, unfolding(crate::specs::Evidence::seeds_at))]
 pub fn seeds_at(line: &mut Line) -> Result<Rows, TextFault>
     ensures { Gives (λ r. r) result (seeds_at line.old) }
@@ -51,7 +51,7 @@ pub(crate) fn seeded_numbers_item(
     let mut first = next_line(lines)?;
     let seeds = seeds_at(&mut first)?;
     let mut second = next_line(lines)?;
-    let numbers = numbers_at(alloc, count, &mut second)?;
+    let numbers = numbers_line_at(alloc, count, &mut second)?;
     Ok(Counted {
         seeds,
         numbers: Items::from_vec(numbers),

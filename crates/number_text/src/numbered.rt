@@ -21,9 +21,9 @@ pub struct NumbersText {
 }
 
 /// A diagram and at most `MAX_QUANDLES` blocks, of at most `MAX_LARGE_ORDER` colours where they are by tables; without blocks the built-in
-/// quandles stand, each alone.
+/// quandles are taken, each alone.
 ///
-/// Else the fault of the first bad line, or want of memory.
+/// Otherwise the fault of the first bad line, or `OutOfMemory`.
 #[tactic(auto, unfolding(crate::specs::Numbered::numbers_in))]
 pub fn read_numbers(alloc: Global, bytes: &[u8]) -> Result<NumbersText, TextFault>
     ensures { Gives (λ n. n) result (numbers_of bytes.now) }

@@ -44,7 +44,7 @@ fn starts_third(lines: &mut Lines) -> bool
     }
 }
 
-/// A problem with evidence by numbers behind it, and nothing more.
+/// A problem with evidence by numbers after it, and nothing more.
 #[tactic(auto, unfolding(crate::specs::Said::third_behind))]
 fn third_behind(
     alloc: Global,
@@ -58,7 +58,7 @@ fn third_behind(
     Ok((problem, Said::Evidence(evidence)))
 }
 
-/// A problem with a verdict of an earlier version behind it, and nothing more.
+/// A problem with a verdict of an earlier version after it, and nothing more.
 #[tactic(auto, unfolding(crate::specs::Said::verdict_behind))]
 fn verdict_behind(
     alloc: Global,
@@ -74,8 +74,8 @@ fn verdict_behind(
     Ok((problem, Said::Verdict(verdict)))
 }
 
-/// A problem, and what is said of its two diagrams: evidence by numbers where the line `certificate 3` stands behind the problem, else what
-/// `read_check` of verdict_text reads. Else the fault of the first bad line, or want of memory.
+/// A problem, and what is said of its two diagrams: evidence by numbers if the line `certificate 3` follows the problem, otherwise what
+/// `read_check` of verdict_text reads. Otherwise the fault of the first bad line, or `OutOfMemory`.
 #[tactic(auto, using(crate::proofs::Behind::fails, crate::proofs::Behind::third, crate::proofs::Behind::earlier))]
 pub fn read_said(alloc: Global, bytes: &[u8]) -> Result<(ProblemText, Said), TextFault>
     ensures { Gives (λ p. p) result (said_of bytes.now) }

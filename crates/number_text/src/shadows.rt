@@ -26,7 +26,7 @@ pub enum Head {
 /// A shadow cocycle of a quandle: the line `shadow k` with its modulus, from 2 to `MAX_MODULUS`, and for each colour w of a region and each colour x
 /// a line of numbers below k, the y-th of which is `θ(w, x, y)`. Or the line `shadow mochizuki`, of a dihedral quandle of prime order.
 ///
-/// Else the fault of the first bad line, or want of memory. The first line exceeds a limit where the quandle has more than `MAX_ORDER` colours.
+/// Otherwise the fault of the first bad line, or `OutOfMemory`. The first line exceeds a limit where the quandle has more than `MAX_ORDER` colours.
 /// A table that fails a law of shadow cocycles is malformed at its last line.
 #[tactic(auto, unfolding(crate::specs::Shadows::shadow_item))]
 pub fn shadow_item(
@@ -120,7 +120,7 @@ fn modulus_of(quandle: &Operations, at: usize, value: u32) -> Result<Head, TextF
     Ok(Head::Table(value as u8))
 }
 
-/// What the first line means, with the lines behind it that a table takes.
+/// What the first line means, with the lines after it that a table takes.
 fn shadow_of(
     alloc: Global,
     quandle: &Operations,
@@ -135,7 +135,7 @@ fn shadow_of(
     shadow_by(alloc, &own, head, lines)
 }
 
-/// What the first line means, of a quandle of at most `MAX_ORDER` colours, with the lines behind it that a table takes.
+/// What the first line means, of a quandle of at most `MAX_ORDER` colours, with the lines after it that a table takes.
 fn shadow_by(
     alloc: Global,
     quandle: &Quandle,
@@ -147,7 +147,7 @@ fn shadow_by(
 {
     match head {
         Head::Mochizuki => Ok(by_formula(alloc, quandle)?),
-        Head::Table(modulus) => cochain_item(alloc, quandle, modulus, lines),
+        Head::Table(modulus) => shadow_cochain_item(alloc, quandle, modulus, lines),
     }
 }
 
@@ -166,7 +166,7 @@ fn by_formula(alloc: Global, quandle: &Quandle) -> Result<SpelledShadow, AllocFa
 
 /// The lines of a table of numbers below the modulus, which has the laws of a shadow cocycle, or is malformed at its last line.
 #[tactic(auto, unfolding(crate::specs::Shadows::shadow_cochain_item))]
-fn cochain_item(
+fn shadow_cochain_item(
     alloc: Global,
     quandle: &Quandle,
     modulus: u8,

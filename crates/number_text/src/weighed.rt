@@ -18,9 +18,9 @@ use verdict_text::{cocycle_item, diagram_item};
 /// A cocycle by which colourings are to be weighed.
 #[derive(Drop)]
 pub enum Weighing {
-    /// A 2-cocycle, behind the word `weight`: it looks at the two strands of a crossing.
+    /// A 2-cocycle, written after the word `weight`: it looks at the two strands of a crossing.
     Strands(Cocycle),
-    /// A shadow cocycle, behind the word `shadow`: it looks at a region too.
+    /// A shadow cocycle, written after the word `shadow`: it looks at a region too.
     Regions(SpelledShadow),
 }
 
@@ -56,9 +56,9 @@ fn shadow_due(
     shadow_item(alloc, &operations, lines)
 }
 
-/// Two diagrams, a quandle item, and a cocycle of this quandle of either kind. Nothing stands behind them.
+/// Two diagrams, a quandle item, and a cocycle of this quandle of either kind. Nothing follows them.
 ///
-/// Else the fault of the first bad line, or want of memory. A table that fails a law of cocycles is malformed at its last line.
+/// Otherwise the fault of the first bad line, or `OutOfMemory`. A table that fails a law of cocycles is malformed at its last line.
 #[tactic(auto, unfolding(crate::specs::Weighed::weighed_in))]
 pub fn read_weighed(alloc: Global, bytes: &[u8]) -> Result<WeighedText, TextFault>
     ensures { Gives (λ w. w) result (weighed_of bytes.now) }

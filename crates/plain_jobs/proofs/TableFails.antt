@@ -14,7 +14,7 @@ use Rattle.text_items.specs.declared.fault.TextFault.{TextFault}
 use Rattle.text_items.specs.declared.quandles.TheConstants.{MAX_QUANDLES}
 use Rattle.text_items.specs.declared.reading.TheConstants.{MAX_NUMBER}
 use Rattle.text_items.specs.Reading.{◌>>=◌, in_turn, next_line, word, number, last_number, last_count, at_most, text_end}
-use Rattle.text_items.specs.Quandles.{quandle_at}
+use Rattle.text_items.specs.Quandles.{quandle_at, large_quandle_item}
 use Rattle.verdict_text.specs.Cocycles.{cocycle_item}
 use Rattle.verdict_text.specs.Diagrams.{diagram_item}
 use Rattle.verdict_text.specs.Moves.{moves_item}
@@ -39,7 +39,7 @@ use Rattle.evidence_core.specs.declared.blocks.LargeWeighing.TheVariants.{Strand
 use Rattle.evidence_core.specs.declared.blocks.Block.{Block}
 use Rattle.number_text.specs.BlockCocycles.{cocycle_or_none}
 use Rattle.number_text.specs.Evidence.{seeds_at, numbers_line_at, count_of}
-use Rattle.number_text.specs.Blocks.{block_quandle, block_item}
+use Rattle.number_text.specs.Blocks.{block_item}
 use Rattle.table_check.specs.declared.class_items.Class.{Class}
 use Rattle.table_check.specs.declared.row_items.OpenPair.{OpenPair}
 use Rattle.table_check.specs.declared.row_items.KnotRow.{KnotRow}
@@ -95,10 +95,11 @@ flat_quandle_line most (Err e) = refl
 quandle_line_at : (most : ℕ) (line : NumberedLine) → At line.number (word (codes "quandle") line >>= plan most)
 quandle_line_at most line = at_bind (word_at (codes "quandle") line) (λ rest e. at_same ((word_keeps (codes "quandle") line).of rest e) (plan_at most rest))
 
-block_quandle_steady : (most : ℕ) → Steady Anywhere (block_quandle most)
-unfolding block_quandle
-block_quandle_steady most =
-    same_steady Anywhere (λ text. next_line text >>= λ line. word (codes "quandle") line.0 >>= λ rest. plan most rest >>= λ p. go p line.1) (block_quandle most)
+large_quandle_steady : (most : ℕ) → Steady Anywhere (large_quandle_item most)
+unfolding large_quandle_item
+large_quandle_steady most =
+    same_steady Anywhere (λ text. next_line text >>= λ line. word (codes "quandle") line.0 >>= λ rest. plan most rest >>= λ p. go p line.1)
+    (large_quandle_item most)
     (λ text. flat_quandle_line most (next_line text))
     (line_then_two (word (codes "quandle")) (plan most) go (quandle_line_at most) go_steady)
 
@@ -160,9 +161,9 @@ pub block_fails : {B : Type 0} (most : ℕ) (k : Block → Text → Result B Tex
     → FailsFirst (λ text. block_item most text >>= λ b. k b.0 b.1)
 unfolding block_item
 block_fails most k fails =
-    same_fails (then_read (block_quandle most) (λ q. quandle_then q k)) (λ text. block_item most text >>= λ b. k b.0 b.1)
-    (λ text. flat_block (block_quandle most text) k)
-    (then_fails Anywhere (block_quandle most) (λ q. quandle_then q k) anywhere_seen (block_quandle_steady most) (λ q. quandle_then_fails q k fails))
+    same_fails (then_read (large_quandle_item most) (λ q. quandle_then q k)) (λ text. block_item most text >>= λ b. k b.0 b.1)
+    (λ text. flat_block (large_quandle_item most text) k)
+    (then_fails Anywhere (large_quandle_item most) (λ q. quandle_then q k) anywhere_seen (large_quandle_steady most) (λ q. quandle_then_fails q k fails))
 
 -- so many blocks
 flat_others : {B : Type 0} (first : Block) (s : Result (List Block × Text) TextFault) (k : List Block → Text → Result B TextFault)

@@ -11,7 +11,7 @@ use knot_words::PlainJob;
 use reply_text::PlainReply;
 use std::alloc::{AllocError, Global};
 
-/// The reply of a job to the bytes of its input, of whatever length. A first bad line is named by the reply. What is said with
+/// The reply of a job to the bytes of its input, of whatever length. The reply names the first bad line, if there is one. What is said with
 /// `Done` is true. It returns an error if memory runs out.
 pub fn answer(alloc: Global, job: PlainJob, bytes: &[u8]) -> Result<PlainReply, AllocError>
     ensures answer { IfOk result (λ reply. AnswersPlainly job bytes.now reply) }

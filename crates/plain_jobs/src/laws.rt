@@ -47,8 +47,8 @@ pub fn a_text_of_blocks_fails_at_its_first_bad_line()
     ensures blocks { FailsFirst blocks_in }
 {}
 
-/// What is read as a problem with what is said of its two diagrams, in one of the first three versions, is read so beside tables. A text whose
-/// first line isn't `certificate 4` is read so, or fails so.
+/// What a reader without tables reads as a problem with what is said of its two diagrams, in one of the first three versions, is still read so. A
+/// text whose first line isn't `certificate 4` is read, or fails, as by that reader.
 pub fn earlier_certificates_are_read_as_before()
     ensures read { (bytes : List ℕ) (x : ProblemText × Said) → said_of bytes ≡ Ok x → certificate_of bytes ≡ as_pair (Ok x) }
     ensures others { (bytes : List ℕ) → begins_table bytes ≡ false → certificate_of bytes ≡ as_pair (said_of bytes) }

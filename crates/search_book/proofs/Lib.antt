@@ -4,34 +4,28 @@ mod Rest
 mod Handing
 pub mod Restaged
 pub mod Histories
-mod ClaimSound
+pub mod ClaimSound
 mod Claimed
-mod Taking
+pub mod Taking
 mod Sizes
 pub mod ReachedEntries
 pub mod RootEntries
 pub mod EndedBooks
-mod WorkedRows
 pub mod Lookups
 mod TwoMaps
 mod Indexes
 mod Offering
-mod Appended
+pub mod Appended
 mod SoundEntries
 mod EntryLists
 mod Growing
-mod SettleCounts
-mod SettleSound
-mod BeginSound
-mod OneAfter
+pub mod SettleCounts
+pub mod SettleSound
+pub mod BeginSound
 mod Opened
-mod Standing
+pub mod Standing
 mod Passing
 mod AfterSettling
-mod LaterEntries
-mod OncePerRun
-mod Accounts
 pub mod Recorded
 mod WaysDown
 mod SidesMet
-mod WorkedPaths

@@ -1,11 +1,10 @@
 -- An offer whose key is on the entry's own side changes nothing.
-use Rattle.std.proofs.Common.{◌≡◌, ◌∙◌, ap, refl, sym, ℕ, true, Bool, if◌then◌else◌, List, Some, None}
+use Rattle.std.proofs.Common.{◌≡◌, ◌∙◌, ap, sym, ℕ, true, Bool, if◌then◌else◌, List, Some, None}
 use Rattle.std.specs.Map.{lookup}
 use Rattle.grid_keys.specs.declared.key.Packed.{Packed}
 use Rattle.grid_keys.specs.Key.{same_key}
 use Rattle.next_moves.specs.declared.links.Offer.{Offer}
 use Rattle.search_book.specs.declared.problem.Side.{Side}
-use Rattle.search_book.specs.declared.problem.Side.TheVariants.{First, Second}
 use Rattle.search_book.specs.declared.entry.Entry.{Entry}
 use Rattle.search_book.specs.declared.event.End.TheVariants.{Met}
 use Rattle.search_book.specs.declared.event.Meeting.TheVariants.{Offered}
@@ -14,13 +13,8 @@ use Rattle.search_book.specs.Entries.{same_side, keys, sides}
 use Rattle.search_book.specs.Index.{Indexed, IsIndexOf, IsPassedOver}
 use Rattle.search_book.specs.Settle.{met_or_passed_over, taken_one}
 use Rattle.search_book.proofs.Indexes.{known_by_place, place_of_pair, side_of_pair}
+use Rattle.search_book.proofs.Lookups.{same_side_of}
 use Rattle.search_book.proofs.Taking.{taken_known}
-
-same_side_of : (a b : Side) → a ≡ b → same_side a b ≡ true
-same_side_of First First is = refl
-same_side_of First Second is = cc
-same_side_of Second First is = cc
-same_side_of Second Second is = refl
 
 -- a key of this side, by the index of the entries
 pub passed_by_pair : (es : List Entry) (index : Indexed) (side : Side) (key : Packed) (known : Known)

@@ -14,9 +14,11 @@ use Rattle.search_book.specs.declared.entry.Stage.TheVariants.{Unclaimed, InFlig
 abbrev pub StandsAt : List Entry → ℕ → Entry → Type 0
 StandsAt entries id e = slice_get entries id ≡ Some e
 
+-- the keys of the entries, by id
 abbrev pub keys : List Entry → List Packed
 keys entries = map (λ (e : Entry). e.key) entries
 
+-- the sides of the entries, by id
 abbrev pub sides : List Entry → List Side
 sides entries = map (λ (e : Entry). e.side) entries
 
@@ -24,12 +26,14 @@ sides entries = map (λ (e : Entry). e.side) entries
 abbrev pub id_of : List Entry → Packed → Option ℕ
 id_of entries key = position (λ (e : Entry). same_key e.key key) entries
 
+-- the two sides are one
 abbrev pub same_side : Side → Side → Bool
 same_side First First = true
 same_side First Second = false
 same_side Second First = false
 same_side Second Second = true
 
+-- the stage of an entry that no worker has claimed
 abbrev pub is_waiting_stage : Stage → Bool
 is_waiting_stage Unclaimed = true
 is_waiting_stage (InFlight worker) = false
@@ -39,14 +43,17 @@ is_waiting_stage Settled = false
 abbrev pub is_waiting : Entry → Bool
 is_waiting e = is_waiting_stage e.stage
 
+-- the stage of a settled entry
 abbrev pub is_settled_stage : Stage → Bool
 is_settled_stage Unclaimed = false
 is_settled_stage (InFlight worker) = false
 is_settled_stage Settled = true
 
+-- the entry is settled
 abbrev pub is_settled : Entry → Bool
 is_settled e = is_settled_stage e.stage
 
+-- some entry is not settled
 abbrev pub HasUnsettled : List Entry → Type 0
 HasUnsettled entries = (id : ℕ) × ((e : Entry) × (StandsAt entries id e × (e.stage ≢ Settled)))
 

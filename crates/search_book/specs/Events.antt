@@ -3,6 +3,7 @@ use Rattle.std.specs.Prelude.{ℕ, List, [], ◌∷◌, Bool, true, false, lengt
 use Rattle.search_book.specs.declared.event.Event.{Event}
 use Rattle.search_book.specs.declared.event.Event.TheVariants.{Claim, Settle}
 
+-- the event is a claim
 abbrev pub is_claim : Event → Bool
 is_claim (Claim worker) = true
 is_claim (Settle worker id) = false

@@ -21,6 +21,7 @@ pub record Indexed : Type 0 where
   pub paired : List (Packed × Known)
   pub spilled : List ℕ
 
+-- the ids that stand beside keys
 abbrev pub paired_ids : Indexed → List ℕ
 paired_ids index = map (λ (p : Packed × Known). p.1.id) index.paired
 

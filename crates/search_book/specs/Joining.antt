@@ -39,6 +39,7 @@ abbrev pub JoinsAtLink : State → ℕ → ℕ → Link → Side → List Move �
 JoinsAtLink s id other link First list = IsThereAndBack s (path s.entries id ++ link_moves link) (path s.entries other) list
 JoinsAtLink s id other link Second list = IsThereAndBack s (path s.entries other) (path s.entries id ++ link_moves link) list
 
+-- the link was offered by entry `id`, and the list goes along it on the side of that entry
 pub record JoinsAtOffer (s : State) (id other : ℕ) (link : Link) (list : List Move) : Type 0 where
   pub entry : Entry
   pub stands : StandsAt s.entries id entry

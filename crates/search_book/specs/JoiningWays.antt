@@ -27,6 +27,7 @@ abbrev pub own_moves : Origin → List Move
 own_moves (Root columns rows) = shift_moves columns rows
 own_moves (Child parent link) = link_moves link
 
+-- the own moves of an entry, or none where there is no entry
 abbrev pub own_moves_at : Option Entry → List Move
 own_moves_at None = []
 own_moves_at (Some e) = own_moves e.origin

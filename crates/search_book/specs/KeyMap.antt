@@ -18,5 +18,6 @@ pairs brief whole = map whole_pair brief ++ whole
 abbrev pub IsWide : Packed → Type 0
 IsWide key = (brief : BriefKey) → whole_key brief ≢ key
 
+-- no brief key stands for any of these keys
 abbrev pub AreWide : List (Packed × Known) → Type 0
 AreWide whole = All (λ (p : Packed × Known). IsWide p.0) whole

@@ -49,6 +49,7 @@ abbrev pub taken_until : ℕ → ℕ → Side → Taken → Offer → Option End
 taken_until budget id side so_far offer None = taken_one budget id side so_far.entries offer
 taken_until budget id side so_far offer (Some end) = so_far
 
+-- one offer more is taken, unless one before ended the book
 abbrev pub taken_next : ℕ → ℕ → Side → Taken → Offer → Taken
 taken_next budget id side so_far offer = taken_until budget id side so_far offer so_far.end
 

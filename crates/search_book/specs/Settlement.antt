@@ -21,6 +21,7 @@ use Rattle.search_book.specs.Sound.{IsKeyOfSide}
 abbrev pub IsNewKey : List Entry → Packed → Type 0
 IsNewKey entries key = All (λ (k : Packed). k ≢ key) (keys entries)
 
+-- the key is one of these
 abbrev pub is_among : List Packed → Packed → Bool
 is_among known key = list_any (λ (k : Packed). same_key k key) known
 

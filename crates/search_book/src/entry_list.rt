@@ -51,11 +51,11 @@ impl BriefEntry {
     }
 }
 
-/// Entries by their ids, with room for as many as were reserved. Where no diagram has more than `WORD_COLUMNS` columns their keys stand in
-/// brief. Contracts see whole entries.
+/// Entries by their ids, with room for as many as were reserved. Where no diagram has more than `WORD_COLUMNS` columns their keys are kept in
+/// brief form. Contracts see whole entries.
 #[derive(Drop)]
 pub struct EntryList {
-    /// How many columns a diagram has at most. Where all such have brief keys the list of whole entries is empty, and else the other one.
+    /// The most columns of a diagram. If all diagrams within them have brief keys, the list of whole entries is empty; otherwise the other one is.
     columns: u8,
     brief: Vec<BriefEntry>,
     whole: Vec<Entry>,
@@ -86,7 +86,7 @@ fn are_brief(columns: u8) -> bool
 }
 
 impl EntryList {
-    /// No entry, with room for so many, of diagrams of at most so many columns.
+    /// An empty list with room for `room` entries, of diagrams of at most `columns` columns.
     pub fn reserve(alloc: Global, room: u32, columns: u8) -> Result<EntryList, OutOfMemory>
         ensures columns { IfOk result (λ list. list.columns ≡ columns) }
         ensures room { IfOk result (λ list. room ≤ list.room) }
@@ -126,7 +126,7 @@ impl EntryList {
         }
     }
 
-    /// The entry with this id. It is put into its callers, so that what they don't read of it need not be made.
+    /// The entry with this id. It is inlined, so that what callers don't read of it need not be made.
     #[inline(always)]
     pub fn at(&self, id: u32) -> Entry
         requires { id < length self.now.entries }
@@ -139,7 +139,7 @@ impl EntryList {
         }
     }
 
-    /// Puts an entry behind the others.
+    /// Puts an entry after the others.
     pub fn push(&mut self, entry: Entry)
         requires room { length self.old.entries < self.old.room }
         requires key { Fits self.old.columns entry.key }

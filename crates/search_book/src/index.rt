@@ -16,9 +16,9 @@ use memory_core::OutOfMemory;
 use std::alloc::Global;
 use std::marker::Model;
 
-/// The ids of keys. An id stands beside its key in a map, with the side of its entry, so that a look-up need not read the entry;
+/// The ids of keys. An id is kept beside its key in a map, with the side of its entry, so that a look-up need not read the entry;
 /// or, where the map had no memory for the pair, alone in a list, whose memory was taken before: so each id finds a place, and no
-/// call but the first one can want memory.
+/// call but the first one can fail for lack of memory.
 #[derive(Drop)]
 pub struct Index {
     by_key: KeyMap,
@@ -35,7 +35,7 @@ impl Model for Index {
 }
 
 impl Index {
-    /// No id, with room for so many, of diagrams of at most so many columns.
+    /// An empty index with room for `room` ids, of diagrams of at most `columns` columns.
     pub fn reserve(alloc: Global, room: u32, columns: u8) -> Result<Index, OutOfMemory>
         ensures room { IfOk result (λ index. room ≤ index.room) }
         ensures index { IfOk result (λ index. IsIndexOf [] [] index) }
@@ -45,8 +45,8 @@ impl Index {
         Ok(Index { by_key, spilled })
     }
 
-    /// Adds what is known of a key behind all others. While the map has room to spare it asks for no memory; no clause says so, and
-    /// where the map is refused memory the id spills.
+    /// Adds what is known of a key after all others. While the map has room to spare it asks for no memory, which is not proved;
+    /// if the map is refused memory, the id goes to the list alone.
     pub fn add(&mut self, key: Packed, known: Known)
         requires room { length self.old.spilled < self.old.room }
         requires new { lookup (same_key key) self.old.paired ≡ None }
@@ -63,8 +63,8 @@ impl Index {
         }
     }
 
-    /// What is known of a key, if it stands in the map at this place, which is the id of its entry where all keys have brief forms and no id
-    /// has spilled. The place may be any number.
+    /// What is known of a key, if it is in the map at this place, which is the id of its entry where all keys have brief forms and no id
+    /// is in the list. The place may be any number.
     pub fn get_at(&self, place: u32, key: &Packed) -> Option<Known>
         ensures { IfSome result (λ known. lookup (same_key key.now) self.now.paired ≡ Some known) }
     {

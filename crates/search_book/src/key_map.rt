@@ -18,8 +18,8 @@ pub struct Known {
     pub side: Side,
 }
 
-/// Keys with what is known of them, in two maps: a key that has a brief form stands by that form, which a look-up reads from one line of
-/// memory or two; any other key stands itself. Contracts see the pairs by whole keys.
+/// Keys with what is known of them, in two maps: a key that has a brief form is kept in that form, which a look-up reads from one line of
+/// memory or two; any other key is kept whole. Contracts see the pairs by whole keys.
 #[derive(Drop)]
 pub struct KeyMap {
     brief: IndexMap<BriefKey, Known>,
@@ -40,7 +40,7 @@ impl Model for KeyMap {
 }
 
 impl KeyMap {
-    /// No key, with room for so many keys of diagrams of at most so many columns.
+    /// Empty maps with room for `room` keys, of diagrams of at most `columns` columns.
     pub fn reserve(alloc: Global, room: u32, columns: u8) -> Result<KeyMap, OutOfMemory>
         ensures { IfOk result (λ map. map ≡ []) }
     {
@@ -64,7 +64,7 @@ impl KeyMap {
         }
     }
 
-    /// What is known of a key, if it stands at this place among the brief keys: they are in the order in which they were added. The place may
+    /// What is known of a key, if it is at this place among the brief keys: they are in the order in which they were added. The place may
     /// be any number.
     pub fn get_at(&self, place: usize, key: &Packed) -> Option<Known>
         ensures { IfSome result (λ known. lookup (same_key key.now) self.now ≡ Some known) }

@@ -58,7 +58,8 @@ pub fn settle_entry(
         → settled_entries budget id e roll.old.entries offers.now ≡ record { entries = roll.new.entries; end = result } }
 {
     let side = roll.entries().at(id).side;
-    let end = take_all(roll, budget, id, side, offers, hints);
+    let parent = Parent { id, side, budget };
+    let end = take_all(roll, parent, offers, hints);
     if end.is_some() {
         return end;
     }
@@ -79,40 +80,41 @@ enum Outcome {
     Refused,
 }
 
-/// Takes the offers of an entry in order, and answers why the book is over where one of them ends it.
-fn take_all(
-    roll: &mut Roll,
-    budget: u32,
+/// The entry whose offers are taken, by its id and its side, and the budget of the book.
+#[derive(Clone, Copy)]
+struct Parent {
     id: u32,
     side: Side,
-    offers: &[Offer],
-    hints: &mut [u32],
-) -> Option<End>
-    requires room { budget ≤ roll.old.room }
+    budget: u32,
+}
+
+/// Takes the offers of an entry in order, and answers why the book is over where one of them ends it.
+fn take_all(roll: &mut Roll, parent: Parent, offers: &[Offer], hints: &mut [u32]) -> Option<End>
+    requires room { parent.budget ≤ roll.old.room }
     requires fit { All (λ (o : Offer). Fits roll.old.columns o.key) offers.now }
     ensures rest { roll.new ≡ record roll.old { entries = roll.new.entries } }
-    ensures taken { taken_all budget id side roll.old.entries offers.now
+    ensures taken { taken_all parent.budget parent.id parent.side roll.old.entries offers.now
         ≡ record { entries = roll.new.entries; end = result } }
 {
     if hints.is_empty() {
-        take_each(roll, budget, id, side, offers)
+        take_each(roll, parent, offers)
     } else {
-        take_each_hinted(roll, budget, id, side, offers, hints)
+        take_each_hinted(roll, parent, offers, hints)
     }
 }
 
 /// Takes the offers without hints.
-fn take_each(roll: &mut Roll, budget: u32, id: u32, side: Side, offers: &[Offer]) -> Option<End>
-    requires room { budget ≤ roll.old.room }
+fn take_each(roll: &mut Roll, parent: Parent, offers: &[Offer]) -> Option<End>
+    requires room { parent.budget ≤ roll.old.room }
     requires fit { All (λ (o : Offer). Fits roll.old.columns o.key) offers.now }
     ensures rest { roll.new ≡ record roll.old { entries = roll.new.entries } }
-    ensures taken { taken_all budget id side roll.old.entries offers.now
+    ensures taken { taken_all parent.budget parent.id parent.side roll.old.entries offers.now
         ≡ record { entries = roll.new.entries; end = result } }
 {
     for offer in offers {
-        match take(roll, budget, id, side, offer) {
+        match take(roll, parent, offer) {
             Outcome::GoesOn => {}
-            Outcome::Met { other } => return Some(met_by(id, other, offer)),
+            Outcome::Met { other } => return Some(met_by(parent.id, other, offer)),
             Outcome::Refused => return Some(End::Spent { refused: offer.key }),
         }
     }
@@ -122,25 +124,23 @@ fn take_each(roll: &mut Roll, budget: u32, id: u32, side: Side, offers: &[Offer]
 /// Takes the offers with the hints, and puts the ids of the entries that were admitted in their places.
 fn take_each_hinted(
     roll: &mut Roll,
-    budget: u32,
-    id: u32,
-    side: Side,
+    parent: Parent,
     offers: &[Offer],
     hints: &mut [u32],
 ) -> Option<End>
-    requires room { budget ≤ roll.old.room }
+    requires room { parent.budget ≤ roll.old.room }
     requires fit { All (λ (o : Offer). Fits roll.old.columns o.key) offers.now }
     ensures rest { roll.new ≡ record roll.old { entries = roll.new.entries } }
-    ensures taken { taken_all budget id side roll.old.entries offers.now
+    ensures taken { taken_all parent.budget parent.id parent.side roll.old.entries offers.now
         ≡ record { entries = roll.new.entries; end = result } }
 {
-    sift(roll, side, offers, hints);
+    sift(roll, parent.side, offers, hints);
     let mut at = 0usize;
     let mut next = roll.len();
     for offer in offers {
         let place = at;
         at = at.saturating_add(1);
-        let end = take_hinted(roll, budget, id, side, offer, hint_at(hints, place));
+        let end = take_hinted(roll, parent, offer, hint_at(hints, place));
         if end.is_some() {
             return end;
         }
@@ -157,7 +157,7 @@ fn met_by(id: u32, other: u32, offer: &Offer) -> End
     End::Met(Meeting::Offered { id, other, link })
 }
 
-/// The hint at a place, or `NO_HINT` behind the hints.
+/// The hint at a place, or `NO_HINT` after the hints.
 fn hint_at(hints: &[u32], place: usize) -> u32 {
     match hints.get(place) {
         Some(hint) => *hint,
@@ -178,7 +178,7 @@ fn sift(roll: &Roll, side: Side, offers: &[Offer], hints: &mut [u32]) {
 }
 
 /// Puts the id of the entry that was admitted into the hints, which is the number of entries before, or `NO_HINT` where none was. Answers
-/// the number of entries now; behind the hints that before.
+/// the number of entries now; after the hints that before.
 fn note(roll: &Roll, hints: &mut [u32], place: usize, before: u32) -> u32 {
     match hints.get_mut(place) {
         Some(hint) => {
@@ -203,47 +203,43 @@ fn is_hinted(roll: &Roll, hint: u32, key: &Packed, side: Side) -> bool
 
 /// Takes one offer, but looks at what the index has at the place of the hint before it looks the key up. That is done as for a list of one
 /// offer: so a list without hints is taken by code that nothing else calls, and that is put into one function.
-fn take_hinted(
-    roll: &mut Roll,
-    budget: u32,
-    id: u32,
-    side: Side,
-    offer: &Offer,
-    hint: u32,
-) -> Option<End>
-    requires room { budget ≤ roll.old.room }
+fn take_hinted(roll: &mut Roll, parent: Parent, offer: &Offer, hint: u32) -> Option<End>
+    requires room { parent.budget ≤ roll.old.room }
     requires fits { Fits roll.old.columns offer.now.key }
     ensures rest { roll.new ≡ record roll.old { entries = roll.new.entries } }
-    ensures taken { taken_one budget id side roll.old.entries offer.now ≡ record { entries = roll.new.entries; end = result } }
+    ensures taken { taken_one parent.budget parent.id parent.side roll.old.entries offer.now ≡ record { entries = roll.new.entries; end = result } }
 {
-    if is_hinted(roll, hint, &offer.key, side) {
+    if is_hinted(roll, hint, &offer.key, parent.side) {
         None
     } else {
-        take_each(roll, budget, id, side, slice::from_ref(offer))
+        take_each(roll, parent, slice::from_ref(offer))
     }
 }
 
 /// Takes one offer of an entry: it is passed over, admitted, or ends the book.
-fn take(roll: &mut Roll, budget: u32, id: u32, side: Side, offer: &Offer) -> Outcome
-    requires room { budget ≤ roll.old.room }
+fn take(roll: &mut Roll, parent: Parent, offer: &Offer) -> Outcome
+    requires room { parent.budget ≤ roll.old.room }
     requires fits { Fits roll.old.columns offer.now.key }
     ensures rest { roll.new ≡ record roll.old { entries = roll.new.entries } }
-    ensures taken { taken_one budget id side roll.old.entries offer.now ≡ record { entries = roll.new.entries; end = end_of id offer.now result } }
+    ensures taken { taken_one parent.budget parent.id parent.side roll.old.entries offer.now
+        ≡ record { entries = roll.new.entries; end = end_of parent.id offer.now result } }
 {
     match roll.find(&offer.key) {
-        Some(known) => met_or_passed_over(side, known),
-        None => admit_or_refuse(roll, budget, id, side, offer),
+        Some(known) => met_or_passed_over(parent.side, known),
+        None => admit_or_refuse(roll, parent, offer),
     }
 }
 
 /// Admits an offer with a new key where there are fewer entries than the budget, and else refuses it.
-fn admit_or_refuse(roll: &mut Roll, budget: u32, id: u32, side: Side, offer: &Offer) -> Outcome
-    requires room { budget ≤ roll.old.room }
+fn admit_or_refuse(roll: &mut Roll, parent: Parent, offer: &Offer) -> Outcome
+    requires room { parent.budget ≤ roll.old.room }
     requires fits { Fits roll.old.columns offer.now.key }
     requires new { id_of roll.old.entries offer.now.key ≡ None }
     ensures rest { roll.new ≡ record roll.old { entries = roll.new.entries } }
-    ensures taken { admitted_or_spent budget id side roll.old.entries offer.now ≡ record { entries = roll.new.entries; end = end_of id offer.now result } }
+    ensures taken { admitted_or_spent parent.budget parent.id parent.side roll.old.entries offer.now
+        ≡ record { entries = roll.new.entries; end = end_of parent.id offer.now result } }
 {
+    let Parent { id, side, budget } = parent;
     if roll.len() < budget {
         let link = offer.link;
         roll.admit(&offer.key, side, Origin::Child { parent: id, link });

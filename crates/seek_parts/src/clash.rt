@@ -6,7 +6,7 @@ ghost use Rattle.seek_parts.specs.Clash.{IsReadFile, IsUnreadFile, Clashes, IsOu
 use crate::texts::Texts;
 use seek_words::{Asked, Diagrams, Given};
 
-/// A path that is read, at which the file is that is written, under whichever names; None without one. Devices and pipes may be both.
+/// The path of a file that is read and would be written too, under whichever names; None if there is none. Devices and pipes may be both.
 pub fn read_and_written<'a, F: Texts>(files: &F, asked: &Asked<'a>) -> Option<&'a str>
     ensures clashes { IfSome result (λ name. Clashes (F.named files.now) asked.now) }
     ensures apart { IfNone result (IsOutUnread (F.named files.now) asked.now) }

@@ -89,7 +89,7 @@ fn write_job<W: fmt::Write>(f: &mut fmt::Formatter<W>, name: &str) -> fmt::Resul
         ),
         _ if name.contains("[") => write!(
             f,
-            "; a code stands in a file, or in standard input, as `--pd -`"
+            "; a code is read from a file, or from standard input by `--pd -`"
         ),
         _ => Ok(()),
     }
@@ -111,8 +111,8 @@ fn write_code<W: fmt::Write>(
     }
 }
 
-/// Writes that memory ran out.
-fn write_memory<W: fmt::Write>(f: &mut fmt::Formatter<W>) -> fmt::Result {
+/// Writes that there is not enough memory.
+pub fn write_memory<W: fmt::Write>(f: &mut fmt::Formatter<W>) -> fmt::Result {
     write!(f, "there is not enough memory")
 }
 
@@ -125,7 +125,7 @@ fn write_refusal<W: fmt::Write>(
     match refusal {
         TextRefusal::Rows(RowsFault::Empty) => { write!(f, "{name} has no crossing and no loop") }
         TextRefusal::Rows(RowsFault::Edge { edge }) => {
-            write!(f, "{name}: edge {edge} does not stand exactly twice")
+            write!(f, "{name}: edge {edge} does not occur exactly twice")
         }
         TextRefusal::Rows(RowsFault::Direction { edge }) => write!(
             f,
@@ -137,7 +137,7 @@ fn write_refusal<W: fmt::Write>(
         TextRefusal::Gauss => write!(f, "{name}: the lines `gauss` are not those of the rows"),
         TextRefusal::Columns { columns } => write!(
             f,
-            "{name} takes a diagram of {columns} columns, and one may have {MAX_SIZE}"
+            "{name} takes a diagram of {columns} columns, and a diagram may have {MAX_SIZE}"
         ),
         TextRefusal::Lost => write!(f, "{name}: no diagram was found"),
     }

@@ -17,7 +17,7 @@ mod texts;
 
 pub use clash::read_and_written;
 pub use disk::DiskPlaces;
-pub use fault::{PartFault, text_status};
+pub use fault::{PartFault, text_status, write_memory};
 pub use parts::Parts;
 pub use place::Place;
 pub use places::Places;

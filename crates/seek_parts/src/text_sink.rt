@@ -47,7 +47,7 @@ impl Sink for TextSink {
 
     ghost faults = { λ s. s.faults };
 
-    /// Takes the whole piece. Want of memory is counted, and fails.
+    /// Takes the whole piece. If memory runs out, that is counted as a fault, and the call fails.
     fn give(&mut self, piece: &[u8]) -> Result<usize, Failed>
         ensures within { IfOk result (λ n. n ≤ length piece.now) }
         ensures bytes { IfOk result (λ n. Appends (Some self.old.bytes) (Some self.new.bytes) (take n piece.now)) }

@@ -16,7 +16,7 @@ pub trait Texts {
     /// The bytes of the file of a path, or `None` where a contract can't know them.
     ghost told: { Self → List ℕ → Option (List ℕ) };
 
-    /// All bytes of the file of a path, `MAX_INPUT` at most, which is called by this name where it can't be read. Else it was not read, is
+    /// All bytes of the file of a path, `MAX_INPUT` at most, which is called by this name where it can't be read. Otherwise it was not read, is
     /// too long, or memory ran out.
     fn text<'a>(
         &self,

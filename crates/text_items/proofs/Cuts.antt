@@ -89,6 +89,11 @@ below_bad kept width order line fits most read long bad =
     let content : are_below read.values width order ≡ false = sym (below_test kept read.values width order fits most read.tells) ∙ bad in
     rw (read.is, test, content) refl
 
+pub width_bad : (width order : ℕ) (line : NumberedLine) (values : List ℕ) → line_numbers line ≡ Ok values → list_any is_long values ≡ false
+    → (length values == width) ≡ false → numbers_below width order line ≡ Err (Malformed line.number)
+unfolding numbers_below
+width_bad width order line values read long other = rw (read, long, other) refl
+
 pub row_bad : (width order : ℕ) (line : NumberedLine) (values row : List ℕ) → order ≤ 255 → line_numbers line ≡ Ok values → list_any is_long values ≡ false
     → row ≡ map low values → are_below row width order ≡ false → numbers_below width order line ≡ Err (Malformed line.number)
 unfolding numbers_below

@@ -119,6 +119,13 @@ quandle_item text = do
   rest ← word (codes "quandle") line.0
   quandle_at MAX_ORDER rest line.1
 
+-- `quandle` and a name, with the lines behind it that a table takes, which has at most the first number of colours
+unfoldable pub large_quandle_item : ℕ → Text → Result (NamedQuandle × Text) TextFault
+large_quandle_item most text = do
+  line ← next_line text
+  rest ← word (codes "quandle") line.0
+  quandle_at most rest line.1
+
 -- one quandle more than a text may have: its form is tried before the limit
 unfoldable pub surplus_quandle : Text → Result (List NamedQuandle × Text) TextFault
 surplus_quandle text = do

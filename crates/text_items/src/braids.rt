@@ -137,7 +137,7 @@ fn refused(at: usize, fault: BraidFault) -> TextFault
     }
 }
 
-/// A braid item.
+/// A braid item. Otherwise the fault of its line, or `OutOfMemory`.
 #[tactic(auto, unfolding(crate::specs::Braids::braid_item))]
 pub fn braid_item(alloc: Global, lines: &mut Lines) -> Result<Braid, TextFault>
     ensures { Gives (λ b. (b, lines.new)) result (braid_item lines.old) }

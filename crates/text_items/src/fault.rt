@@ -4,17 +4,17 @@ ghost use Rattle.text_items.specs.declared.fault.TextFault.TheVariants as fault;
 
 use std::alloc::{AllocError, AllocFailed};
 
-/// Why a text is not read: its first bad line, or want of memory.
+/// Why a text is not read: its first bad line, or memory that ran out.
 ///
 /// Lines are counted from 1. Each line is tried first for its form, then for its limits, then for its content, and the
 /// first line that fails decides. Where the text ends and something is still due, the line is the number of lines plus one.
 #[derive(Clone, Copy, Debug, PartialEq, Eq)]
 pub enum TextFault {
-    /// This line has not the form of what is due there, or says what can't be, or stands behind the end.
+    /// This line doesn't have the form of what is due there, or says what can't be, or follows the end.
     Malformed { line: usize },
     /// This line has the form of what is due there, and exceeds a limit.
     Limit { line: usize },
-    /// Memory was wanting.
+    /// Memory ran out.
     OutOfMemory,
 }
 

@@ -7,9 +7,9 @@ ghost use Rattle.text_items.specs.Reading.{Gives};
 ghost use Rattle.text_items.specs.Grids.{are_rows, x_at, o_at, grid_item};
 
 use crate::fault::TextFault;
-use crate::numbers::{all_below, numbers_behind};
+use crate::numbers::numbers_behind;
 use crate::reading::next_line;
-use grid_core::{Grid, Rows, is_repeated};
+use grid_core::{Grid, Rows, all_below, is_repeated};
 use text_lines::{Line, Lines};
 
 /// The line of the Xs of a grid: two or more numbers, each of 0 to n-1 once.
@@ -41,7 +41,7 @@ fn o_at(x: &Rows, line: &mut Line) -> Result<Grid, TextFault>
     }
 }
 
-/// The two lines of a grid.
+/// The two lines of a grid. Otherwise the fault of the first bad one.
 #[tactic(auto, unfolding(crate::specs::Grids::grid_item))]
 pub fn grid_item(lines: &mut Lines) -> Result<Grid, TextFault>
     ensures { Gives (λ g. (g, lines.new)) result (grid_item lines.old) }
@@ -52,7 +52,7 @@ pub fn grid_item(lines: &mut Lines) -> Result<Grid, TextFault>
     o_at(&x, &mut second)
 }
 
-/// Whether there are two or more numbers, and each of the n numbers is below n, and none stands twice.
+/// Whether there are two or more numbers, and each of the n numbers is below n, and none occurs twice.
 fn are_rows(rows: &[u8]) -> bool
     requires { length rows.now ≤ MAX_SIZE }
     ensures { result ≡ are_rows rows.now }
@@ -60,7 +60,7 @@ fn are_rows(rows: &[u8]) -> bool
     2 <= rows.len() && all_below(rows, rows.len() as u8) && !has_repeat(rows)
 }
 
-/// Whether some number stands in an earlier place too.
+/// Whether some number is at an earlier place too.
 fn has_repeat(rows: &[u8]) -> bool
     ensures { result ≡ list_any (λ c. is_repeated rows.now c) (range_with_len 0 (length rows.now)) }
 {

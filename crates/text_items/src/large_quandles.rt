@@ -8,17 +8,17 @@ ghost use Rattle.quandle_core.specs.Names.{called};
 ghost use Rattle.text_items.specs.declared.fault.TextFault.TheVariants as fault;
 ghost use Rattle.text_items.specs.declared.quandles.Written.TheVariants as written;
 ghost use Rattle.text_items.specs.Reading.{Gives};
-ghost use Rattle.text_items.specs.Quandles.{table_item, judged, quandle_at};
+ghost use Rattle.text_items.specs.Quandles.{table_item, judged, quandle_at, large_quandle_item};
 
 use crate::fault::TextFault;
 use crate::quandles::{Written, is_over, quandle_of, written_at};
-use crate::reading::next_line;
+use crate::reading::{next_line, word};
 use crate::rows::{number_row, table_front};
 use quandle_core::{LargeFault, LargeListed, LargeQuandle};
 use std::alloc::Global;
 use text_lines::{Line, Lines};
 
-/// Where the name of a quandle stands.
+/// Where the name of a quandle is written.
 #[derive(Clone, Copy)]
 struct NamePlace {
     /// How many colours a table may have there.
@@ -63,9 +63,9 @@ fn large_quandle_by(
     }
 }
 
-/// A name at the end of a line, with the lines behind it that a table takes. A table has at most `most` colours, a name `MAX_ORDER`.
+/// A name at the end of a line, with the lines after it that a table takes. A table has at most `most` colours, a name `MAX_ORDER`.
 ///
-/// Else the fault of the first bad line, or want of memory.
+/// Otherwise the fault of the first bad line, or `OutOfMemory`.
 #[tactic(auto, unfolding(crate::specs::Quandles::quandle_at))]
 pub fn large_quandle_at(
     alloc: Global,
@@ -84,7 +84,22 @@ pub fn large_quandle_at(
     quandle_written(alloc, place, written, lines)
 }
 
-/// What a name means, with the lines behind it that a table takes.
+/// A quandle, by a table of at most `most` colours or by a name. Otherwise the fault of the first bad line, or `OutOfMemory`.
+#[tactic(auto, unfolding(crate::specs::Quandles::large_quandle_item))]
+pub fn large_quandle_item(
+    alloc: Global,
+    most: usize,
+    lines: &mut Lines,
+) -> Result<LargeListed, TextFault>
+    requires { most ≤ MAX_LARGE_ORDER }
+    ensures { Gives (λ q. (q, lines.new)) result (large_quandle_item most lines.old) }
+{
+    let mut line = next_line(lines)?;
+    word(&mut line, b"quandle")?;
+    large_quandle_at(alloc, most, &mut line, lines)
+}
+
+/// What a name means, with the lines after it that a table takes.
 fn quandle_written(
     alloc: Global,
     place: NamePlace,
@@ -103,7 +118,7 @@ fn quandle_written(
     }
 }
 
-/// What `table` and an order mean, with the lines behind them.
+/// What `table` and an order mean, with the lines after them.
 fn table_written(
     alloc: Global,
     place: NamePlace,
@@ -123,7 +138,7 @@ fn table_written(
     Ok(LargeListed::table(quandle))
 }
 
-/// What a name in line `at` means that takes no lines behind it.
+/// What a name in line `at` means that takes no lines after it.
 fn name_written(
     alloc: Global,
     at: usize,

@@ -16,7 +16,7 @@ pub mod rows;
 pub use braids::{braid_item, letter};
 pub use fault::TextFault;
 pub use grids::grid_item;
-pub use large_quandles::large_quandle_at;
+pub use large_quandles::{large_quandle_at, large_quandle_item};
 pub use modulus::{MAX_MODULUS, modulus_at};
 pub use number_lists::{any_long, number_list};
 pub use quandles::{

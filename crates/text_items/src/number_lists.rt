@@ -9,7 +9,7 @@ use crate::reading::MAX_NUMBER;
 use std::alloc::Global;
 use text_lines::Line;
 
-/// All tokens that are left of a line, as numbers of any size.
+/// All tokens that are left of a line, as numbers of any size. Otherwise the fault of the line, or `OutOfMemory`.
 pub fn number_list(alloc: Global, line: &mut Line) -> Result<Vec<u32>, TextFault>
     ensures { Gives (λ v. v.items) result (line_numbers line.old) }
 {
@@ -24,7 +24,7 @@ pub fn number_list(alloc: Global, line: &mut Line) -> Result<Vec<u32>, TextFault
     Ok(list)
 }
 
-/// Whether a number has too many digits.
+/// Whether one of the numbers has too many digits.
 pub fn any_long(list: &[u32]) -> bool
     ensures { result ≡ list_any is_long list.now }
 {

@@ -9,7 +9,7 @@ ghost use Rattle.text_items.specs.Kept.{low, Tells, KeepsOrFails, CutsOrFails, a
 
 use crate::fault::TextFault;
 use crate::reading::{MAX_NUMBER, word};
-use grid_core::{MAX_SIZE, Rows};
+use grid_core::{MAX_SIZE, Rows, all_below};
 use text_lines::Line;
 
 /// What is kept of the numbers of a line.
@@ -68,7 +68,7 @@ pub fn low(value: u32) -> u8
     if value < 255 { value as u8 } else { 255 }
 }
 
-/// A word and at most `MAX_SIZE` numbers, each cut down to at most 255.
+/// A word and at most `MAX_SIZE` numbers, each cut down to at most 255. Otherwise the fault of the line.
 #[tactic(auto, unfolding(crate::specs::NumberLines::numbers_behind))]
 pub fn numbers_behind(expected: &[u8], line: &mut Line) -> Result<Rows, TextFault>
     ensures { CutsOrFails result (numbers_behind expected.now line.old) }
@@ -82,7 +82,7 @@ pub fn numbers_behind(expected: &[u8], line: &mut Line) -> Result<Rows, TextFaul
     Ok(kept.first)
 }
 
-/// So many numbers below the order, which is at most 255, in place. `number_row` of `rows` gives them on the heap, however many.
+/// `width` numbers below the order, which is at most 255, in place. `number_row` of `rows` gives them on the heap, however many.
 #[tactic(auto, unfolding(crate::specs::NumberLines::numbers_below))]
 pub fn numbers_below(width: u8, order: u8, line: &mut Line) -> Result<Rows, TextFault>
     requires { width ≤ MAX_SIZE }
@@ -112,11 +112,4 @@ pub(crate) fn is_row(row: &[u8], width: u8, bound: u8) -> bool
     ensures { result ≡ ((length row.now == width) && list_all (λ v. nat_lt v bound) row.now) }
 {
     row.len() == width as usize && all_below(row, bound)
-}
-
-/// Whether each number is below the order.
-pub fn all_below(numbers: &[u8], order: u8) -> bool
-    ensures { result ≡ list_all (λ v. nat_lt v order) numbers.now }
-{
-    numbers.iter().all(|number| *number < order)
 }

@@ -125,7 +125,7 @@ fn quandle_by(order: u8, table: &[u8]) -> Option<Quandle>
     }
 }
 
-/// What a name in line `at` means, with the lines behind it that a table takes. The name exceeds no limit.
+/// What a name in line `at` means, with the lines after it that a table takes. The name exceeds no limit.
 pub(crate) fn quandle_of(
     alloc: Global,
     at: usize,
@@ -147,7 +147,7 @@ pub(crate) fn quandle_of(
     }
 }
 
-/// A name at the end of a line, with the lines behind it that a table takes. Else the fault of the first bad line, or want of memory.
+/// A name at the end of a line, with the lines after it that a table takes. Otherwise the fault of the first bad line, or `OutOfMemory`.
 #[tactic(auto, unfolding(crate::specs::Quandles::quandle_at))]
 pub fn quandle_at(alloc: Global, line: &mut Line, lines: &mut Lines) -> Result<Listed, TextFault>
     ensures { Gives (λ q. (q, lines.new)) result (quandle_at MAX_ORDER line.old lines.old) }
@@ -160,7 +160,7 @@ pub fn quandle_at(alloc: Global, line: &mut Line, lines: &mut Lines) -> Result<L
     quandle_of(alloc, at, written, lines)
 }
 
-/// A quandle item. Else the fault of the first bad line, or want of memory.
+/// A quandle item. Otherwise the fault of the first bad line, or `OutOfMemory`.
 #[tactic(auto, unfolding(crate::specs::Quandles::quandle_item))]
 pub fn quandle_item(alloc: Global, lines: &mut Lines) -> Result<Listed, TextFault>
     ensures { Gives (λ q. (q, lines.new)) result (quandle_item lines.old) }
@@ -200,7 +200,7 @@ fn quandles(alloc: Global, lines: &mut Lines) -> Result<Vec<Listed>, TextFault>
     Ok(listed)
 }
 
-/// The names of the quandles that stand for an empty list.
+/// The names of the quandles that take the place of an empty list.
 const BUILT_IN: [QuandleName; 5] = [
     QuandleName::Trivial(2),
     QuandleName::Dihedral(3),
@@ -209,7 +209,7 @@ const BUILT_IN: [QuandleName; 5] = [
     QuandleName::Dihedral(7),
 ];
 
-/// The quandles that stand for an empty list. Want of memory is the only error.
+/// The quandles that take the place of an empty list. It fails only if memory runs out.
 pub fn built_in(alloc: Global) -> Result<Vec<Listed>, TextFault>
     ensures ok { IfOk result (λ v. v.items ≡ built_in) }
     ensures err { IfErr result (λ e. e ≡ TextFault.OutOfMemory) }
@@ -223,7 +223,7 @@ pub fn built_in(alloc: Global) -> Result<Vec<Listed>, TextFault>
     Ok(listed)
 }
 
-/// All quandle items, or the built-in list where there are none. Else the fault of the first bad line, or want of memory.
+/// All quandle items, or the built-in list where there are none. Otherwise the fault of the first bad line, or `OutOfMemory`.
 #[tactic(auto, unfolding(crate::specs::Quandles::quandle_list))]
 pub fn quandle_list(alloc: Global, lines: &mut Lines) -> Result<Items<Listed>, TextFault>
     ensures { Gives (λ q. (q, lines.new)) result (quandle_list lines.old) }

@@ -92,7 +92,7 @@ pub fn number(line: &mut Line) -> Result<u32, TextFault>
     }
 }
 
-/// A number of any size, and no token behind it.
+/// A number of any size, and no token after it.
 #[tactic(auto, unfolding(crate::specs::Reading::last_number))]
 pub fn last_number(line: &mut Line) -> Result<u32, TextFault>
     ensures { Gives (λ n. (n, line.new)) result (last_number line.old) }

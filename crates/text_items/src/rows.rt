@@ -1,5 +1,5 @@
 //! Rows of numbers, read onto the heap.
-ghost use Rattle.std.specs.Prelude.{◌≡◌, ◌≤◌, ◌-◌, map, IfOk};
+ghost use Rattle.std.specs.Prelude.{◌≡◌, ◌≤◌, ◌-◌, ◌==◌, length, map, IfOk};
 ghost use Rattle.text_items.specs.Reading.{Gives};
 ghost use Rattle.text_items.specs.NumberLines.{numbers_below};
 ghost use Rattle.text_items.specs.Kept.{low};
@@ -12,7 +12,7 @@ use crate::reading::next_line;
 use std::alloc::{AllocFailed, Global};
 use text_lines::{Line, Lines};
 
-/// A row of so many numbers below a bound, which is at most 255, on the heap. Else the fault of the line, or want of memory.
+/// A row of `width` numbers below a bound, which is at most 255, on the heap. Otherwise the fault of the line, or `OutOfMemory`.
 #[tactic(auto, unfolding(crate::specs::NumberLines::numbers_below))]
 pub fn number_row(
     alloc: Global,
@@ -27,11 +27,22 @@ pub fn number_row(
     if any_long(list.as_slice()) {
         return Err(TextFault::Limit { line: at });
     }
+    // A line of another length is bad, whether or not there is memory for its bytes.
+    if !has_width(list.as_slice(), width) {
+        return Err(TextFault::Malformed { line: at });
+    }
     let row = narrowed(alloc, list.as_slice())?;
     if !is_row(row.as_slice(), width, bound) {
         return Err(TextFault::Malformed { line: at });
     }
     Ok(row)
+}
+
+/// Whether a list has so many numbers.
+fn has_width(list: &[u32], width: u8) -> bool
+    ensures { result ≡ (length list.now == width) }
+{
+    list.len() == width as usize
 }
 
 /// The numbers of a list, each cut down to at most 255.
@@ -54,9 +65,9 @@ fn table_row(alloc: Global, order: u8, bound: u8, lines: &mut Lines) -> Result<V
     number_row(alloc, order, bound, &mut line)
 }
 
-/// The entries of so many lines, each of as many numbers below the bound as the order.
+/// The entries of `count` lines, each of `order` numbers below the bound.
 ///
-/// Else the fault of the first bad line, or want of memory.
+/// Otherwise the fault of the first bad line, or `OutOfMemory`.
 pub fn table_rows(
     alloc: Global,
     order: u8,
@@ -74,7 +85,7 @@ pub fn table_rows(
     Ok(entries)
 }
 
-/// The entries of all lines of a square table but the last, each below the bound. Else the fault of the first bad line, or want of memory.
+/// The entries of all lines of a square table but the last, each below the bound. Otherwise the fault of the first bad line, or `OutOfMemory`.
 pub fn table_front(
     alloc: Global,
     order: u8,

@@ -1,8 +1,6 @@
 //! The job `braid`: the braid word of a diagram's grid, and the fixed points of the word's action by the listed quandles.
-ghost use Rattle.std.specs.Prelude.{◌≡◌, ◌++◌, ◌⊎◌, Err, false, map, IfOk, IfErr, OnOk, IsSorted, IsPermutation};
+ghost use Rattle.std.specs.Prelude.{◌≡◌, ◌++◌, ◌⊎◌, Err, false, map, IfOk, IfErr, OnOk};
 ghost use Rattle.std.specs.List.{All, flat_map};
-ghost use Rattle.std.specs.Cmp.Lexicographic.{slice_cmp};
-ghost use Rattle.std.specs.Ordering.{nat_cmp};
 ghost use Rattle.grid_core.specs.Parts.{bottoms};
 ghost use Rattle.colour_rows.specs.Colouring.{IsColouring};
 ghost use Rattle.colour_list.specs.declared.limits.ListFault.TheVariants as fault;
@@ -19,7 +17,7 @@ ghost use Rattle.plain_jobs.specs.Jobs.Braid.{word_fixed_lines, word_fixed_text,
 
 use crate::jobs::colour::push_listing;
 use braid_laws::braids::the_fixed_points_are_listed;
-use colour_list::{ListFault, list};
+use colour_list::{ListFault, in_order, list};
 use colour_rows::Colouring;
 use grid_braid::laws::colourings_at_the_feet_are_the_fixed_points;
 use grid_braid::{feet_of, word_of};
@@ -147,13 +145,4 @@ fn feet_of_all(
         feet.push(feet_of(grid, quandle, colours))?;
     }
     Ok(feet)
-}
-
-/// The same lists in lexicographic order. Takes no memory.
-fn in_order(mut tuples: Vec<Colouring>) -> Vec<Colouring>
-    ensures sorted { IsSorted (λ a b. slice_cmp nat_cmp a.items b.items) result.items }
-    ensures permutation { IsPermutation tuples.items result.items }
-{
-    tuples.sort_unstable();
-    tuples
 }

@@ -42,16 +42,15 @@ returns-clause-some c =
     let back = c.in-Some.crossings_back.items in
     let edges = c.in_ok-edges.edges.items in
     let edges_back = c.in_ok-edges.edges_back.items in
-    let r : Renaming =
-    record { crossings = c.from_vec.result; crossings_back = c.from_vec-2.result; edges = c.from_vec-3.result; edges_back = c.from_vec-4.result } in
+    let r : Renaming = c.of-renaming.result in
     let both = subst (λ (xs : List ℕ). Correspond one two xs) c.as_slice.ensures.value (c.correspond.ensures.0 c.if-not-correspond.false) in
     let undone : AreInverse (length there) there back = rw c.in-Some.is at c.in_ok-crossings_back.ensures.some in
     let same = c.are_same.ensures.0 c.if-not-are_same.false in
-    made one two r crossings both c.from_vec.ensures
+    made one two r crossings both c.of-renaming.ensures.crossings
     (inverse_of (length there) (length crossings) there back r.crossings r.crossings_back (ap length c.as_slice-2.ensures.value)
-    (c.as_slice-2.ensures.value ∙ sym c.from_vec.ensures) (sym c.from_vec-2.ensures) undone)
-    (inverse_of one.edges one.edges edges edges_back r.edges r.edges_back refl (sym c.from_vec-3.ensures) (sym c.from_vec-4.ensures)
+    (c.as_slice-2.ensures.value ∙ sym c.of-renaming.ensures.crossings) (sym c.of-renaming.ensures.crossings_back) undone)
+    (inverse_of one.edges one.edges edges edges_back r.edges r.edges_back refl (sym c.of-renaming.ensures.edges) (sym c.of-renaming.ensures.edges_back)
     c.in_ok-edges.ensures.inverse)
     (same_of c.as_slice-4.result.now c.as_slice-5.result.now r.edges r.crossings ones twos one.crossings two.crossings
-    (c.as_slice-4.ensures.value ∙ sym c.from_vec-3.ensures) (c.as_slice-5.ensures.value ∙ sym c.from_vec.ensures)
+    (c.as_slice-4.ensures.value ∙ sym c.of-renaming.ensures.edges) (c.as_slice-5.ensures.value ∙ sym c.of-renaming.ensures.crossings)
     c.as_slice-ones.ensures c.as_slice-twos.ensures same)

@@ -8,20 +8,20 @@ use Rattle.search_book.proofs.settle.take_each.Goals as goal
 
 pub returns-in-Met-clause-taken : goal.returns-in-Met-clause-taken
 returns-in-Met-clause-taken c =
-    ended_here c.args.budget c.args.id c.args.side _ c.args.offers.now c.args.roll.now.entries c.loop-offer.roll.entries c.take.new.roll.entries
-    c.loop-offer.offer-index _ c.loop-offer-test.true c.loop-offer.invariant.1
+    ended_here c.args.parent.budget c.args.parent.id c.args.parent.side _ c.args.offers.now c.args.roll.now.entries c.loop-offer.roll.entries
+    c.take.new.roll.entries c.loop-offer.offer-index _ c.loop-offer-test.true c.loop-offer.invariant.1
     (c.in-Met.ensures.taken ∙ ap (λ (end : End). taken c.take.new.roll.entries (Some end)) (sym c.met_by.ensures)) refl
 
 pub returns-in-Refused-clause-taken : goal.returns-in-Refused-clause-taken
 returns-in-Refused-clause-taken c =
-    ended_here c.args.budget c.args.id c.args.side _ c.args.offers.now c.args.roll.now.entries c.loop-offer.roll.entries c.take.new.roll.entries
-    c.loop-offer.offer-index _ c.loop-offer-test.true c.loop-offer.invariant.1 c.in-Refused.ensures.taken refl
+    ended_here c.args.parent.budget c.args.parent.id c.args.parent.side _ c.args.offers.now c.args.roll.now.entries c.loop-offer.roll.entries
+    c.take.new.roll.entries c.loop-offer.offer-index _ c.loop-offer-test.true c.loop-offer.invariant.1 c.in-Refused.ensures.taken refl
 
 pub loop-offer-preserved : goal.loop-offer-preserved
 loop-offer-preserved c = (
   rest_after c.args.roll.now c.loop-offer.roll c.take.new.roll c.loop-offer.invariant.0 c.in-GoesOn.ensures.rest,
-  one_more c.args.budget c.args.id c.args.side _ c.args.offers.now c.args.roll.now.entries c.loop-offer.roll.entries c.take.new.roll.entries
-      c.loop-offer.offer-index None c.loop-offer-test.true c.loop-offer.invariant.1 c.in-GoesOn.ensures.taken,
+  one_more c.args.parent.budget c.args.parent.id c.args.parent.side _ c.args.offers.now c.args.roll.now.entries c.loop-offer.roll.entries
+      c.take.new.roll.entries c.loop-offer.offer-index None c.loop-offer-test.true c.loop-offer.invariant.1 c.in-GoesOn.ensures.taken,
 )
 
 pub take-requires-clause-room : goal.take-requires-clause-room

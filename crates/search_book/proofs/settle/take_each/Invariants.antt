@@ -6,4 +6,4 @@ use Rattle.search_book.proofs.settle.take_each.Given as goal
 abbrev pub invariant-loop-offer : goal.invariant-loop-offer
 invariant-loop-offer l =
     (l.roll ≡ record l.fn.roll { entries = l.roll.entries })
-    × (taken_all l.budget l.id l.side l.fn.roll.entries (take l.offer-index l.offers) ≡ record { entries = l.roll.entries; end = None })
+    × (taken_all l.parent.budget l.parent.id l.parent.side l.fn.roll.entries (take l.offer-index l.offers) ≡ record { entries = l.roll.entries; end = None })

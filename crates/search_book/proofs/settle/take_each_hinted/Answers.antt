@@ -7,8 +7,8 @@ use Rattle.search_book.proofs.settle.take_each_hinted.Goals as goal
 
 pub returns-then-is_some-clause-taken : goal.returns-then-is_some-clause-taken
 returns-then-is_some-clause-taken c =
-    ended_here c.args.budget c.args.id c.args.side _ c.args.offers.now c.args.roll.now.entries c.loop-offer.roll.entries c.take_hinted-end.new.roll.entries
-    c.loop-offer.offer-index _ c.loop-offer-test.true c.loop-offer.invariant.1 c.take_hinted-end.ensures.taken
+    ended_here c.args.parent.budget c.args.parent.id c.args.parent.side _ c.args.offers.now c.args.roll.now.entries c.loop-offer.roll.entries
+    c.take_hinted-end.new.roll.entries c.loop-offer.offer-index _ c.loop-offer-test.true c.loop-offer.invariant.1 c.take_hinted-end.ensures.taken
     (sym c.is_some.ensures ∙ c.if-is_some.true)
 
 pub returns-then-is_some-clause-rest : goal.returns-then-is_some-clause-rest
@@ -18,8 +18,9 @@ returns-then-is_some-clause-rest c =
 pub loop-offer-preserved : goal.loop-offer-preserved
 loop-offer-preserved c = (
   rest_after c.args.roll.now c.loop-offer.roll c.take_hinted-end.new.roll c.loop-offer.invariant.0 c.take_hinted-end.ensures.rest,
-  one_more c.args.budget c.args.id c.args.side _ c.args.offers.now c.args.roll.now.entries c.loop-offer.roll.entries c.take_hinted-end.new.roll.entries
-      c.loop-offer.offer-index c.take_hinted-end.result c.loop-offer-test.true c.loop-offer.invariant.1 c.take_hinted-end.ensures.taken
+  one_more c.args.parent.budget c.args.parent.id c.args.parent.side _ c.args.offers.now c.args.roll.now.entries c.loop-offer.roll.entries
+      c.take_hinted-end.new.roll.entries c.loop-offer.offer-index c.take_hinted-end.result c.loop-offer-test.true c.loop-offer.invariant.1
+      c.take_hinted-end.ensures.taken
       ∙ ap (taken c.take_hinted-end.new.roll.entries) (none_of c.take_hinted-end.result (sym c.is_some.ensures ∙ c.if-is_some.false)),
 )
 

@@ -1,0 +1,6 @@
+mod LaterEntries
+mod OneAfter
+mod OncePerRun
+mod Accounts
+mod WorkedRows
+mod WorkedPaths

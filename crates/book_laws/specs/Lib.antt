@@ -1,0 +1,15 @@
+pub use Rattle.grid_core.specs.Diagram
+pub use Rattle.grid_keys.specs.Key
+pub use Rattle.next_moves.specs.Offers
+pub use Rattle.next_moves.specs.Reach
+pub use Rattle.search_book.specs.Answers
+pub use Rattle.search_book.specs.Begin
+pub use Rattle.search_book.specs.Claim
+pub use Rattle.search_book.specs.Ended
+pub use Rattle.search_book.specs.Entries
+pub use Rattle.search_book.specs.Events
+pub use Rattle.search_book.specs.Machine
+pub use Rattle.search_book.specs.Settle
+pub use Rattle.search_book.specs.Settlement
+pub use Rattle.search_book.specs.Sound
+pub use Rattle.search_book.specs.State

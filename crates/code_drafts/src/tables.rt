@@ -1,0 +1,29 @@
+//! Tables that have a value at each place, which beyond their end is the default of its type: 0, or false.
+
+use std::alloc::{AllocError, Global};
+
+/// What is at a place of a table, and the default beyond its end.
+pub(crate) fn at<T: Copy + Default>(cells: &[T], place: usize) -> T {
+    if place < cells.len() {
+        cells[place]
+    } else {
+        T::default()
+    }
+}
+
+/// Writes to a place of a table, and nothing beyond its end.
+pub(crate) fn put<T: Copy>(cells: &mut [T], place: usize, value: T) {
+    if place < cells.len() {
+        cells[place] = value;
+    }
+}
+
+/// A table of this length with the same value at each place.
+pub(crate) fn table(alloc: Global, length: usize) -> Result<Vec<usize>, AllocError> {
+    vec![in alloc; 0; length]
+}
+
+/// A table of this length with no place marked.
+pub(crate) fn marks(alloc: Global, length: usize) -> Result<Vec<bool>, AllocError> {
+    vec![in alloc; false; length]
+}
