@@ -1,5 +1,5 @@
 //! The top call: words, read, length, text, job, write.
-ghost use Rattle.std.specs.Prelude.{◌≡◌, ◌≤◌, None, Ok, IfOk, IfErr, IsErrOf};
+ghost use Rattle.std.specs.Prelude.{◌≡◌, ◌≤◌, None, Ok, IfOk, IfErr, IsErrOf, true};
 ghost use Rattle.knot_words.specs.OptionNumbers.{texts_of};
 ghost use Rattle.knot_words.specs.Words.{Asks, AsksNothing, IsWithinBounds};
 ghost use Rattle.knot_words.specs.Limits.{limit_of};
@@ -30,7 +30,7 @@ const USAGE: &[u8] = b"usage: knot JOB [--workers W] [--budget B] [--spare S] [-
 /// 1,048,576) ends in `Limit`, one with a bad line in `Malformed` or `Limit` by its first bad line. Every other ends as the job
 /// answers it: `Done`, `Unknown` where `decide` finds no evidence, `Rejected`, or `Limit` where `grid` has a code that no diagram of
 /// at most `MAX_SIZE` columns was drawn for. The whole answer is made before the first write, so `ReadFault` and `OutOfMemory` write nothing;
-/// `WriteFault` has written a front of what was due. Faults come only where the source's or sink's own count of faults rose. Where
+/// with `WriteFault` a prefix of the answer was written. Faults come only where the source's or sink's own count of faults rose. Where
 /// `decide` or `check` ends with `Done`, what the verdict, the evidence by numbers or the table says is true; where
 /// `linking` or `weights` writes `different`, no list of moves joins the two; and where `braidcheck` ends with `Done`, no quandle
 /// distinguishes the closures of the two braids by how many colourings they have.
@@ -38,7 +38,7 @@ const USAGE: &[u8] = b"usage: knot JOB [--workers W] [--budget B] [--spare S] [-
 /// Where `decide` searched, and its answer was written, the search is left in the ports' `kept`; else that is None. The bytes that were
 /// answered are left in their `input`. `decide` searches with as many workers as the words ask for, which pass the gate between a claim and
 /// its settlement; where they ask for one, it searches in the calling thread and passes no gate. All this holds however the workers
-/// interleave, where the call returns: workers may wait for each other.
+/// interleave, where the call returns: workers may wait for each other. What needs one worker is answered as by `run_alone`, which returns.
 pub fn run<R: Threads + Wait + Sync, S: Source, K: Sink, G: Gate + Sync>(
     rt: &R,
     alloc: Global,
@@ -59,7 +59,7 @@ pub fn run<R: Threads + Wait + Sync, S: Source, K: Sink, G: Gate + Sync>(
     end(&mut ports.sink, reply, &mut ports.kept)
 }
 
-/// What `run` does where the words ask for one worker, however many they ask for. It takes no runtime, waits for nobody, and
+/// Takes the words as if they asked for one worker, and does what `run` then does. It takes no runtime, waits for nobody, and
 /// returns.
 pub fn run_alone<S: Source, K: Sink>(
     alloc: Global,
@@ -128,6 +128,9 @@ fn answer_source<R: Threads + Wait + Sync, S: Source, G: Gate + Sync>(
     ensures made { IsMadeOf asked.now (source_change S.Source source.old source.new) result }
     ensures count { S.faults source.old ≤ S.faults source.new }
 {
+    if needs_one(asked) {
+        return answer_source_alone(alloc, asked, source, input);
+    }
     let Some(bytes) = read_for(alloc, asked.job, source)? else {
         return or_no_memory(Reply::too_long(alloc));
     };
@@ -136,8 +139,18 @@ fn answer_source<R: Threads + Wait + Sync, S: Source, G: Gate + Sync>(
     or_no_memory(reply)
 }
 
+/// Whether what is asked for needs one worker: any job but a `decide` with more of them.
+fn needs_one(asked: &Asked) -> bool
+    ensures { result ≡ true → asked.now.job ≡ Job.Decide → asked.now.workers ≡ 1 }
+{
+    match asked.job {
+        Job::Decide => asked.workers == 1,
+        _ => true,
+    }
+}
+
 /// The answer of the job that is asked for, of `decide` with one worker, to all that the source gives, which becomes the input; the error
-/// is the status of a call that writes nothing.
+/// is the status of a call that writes nothing. It takes no runtime, waits for nobody, and returns.
 fn answer_source_alone<S: Source>(
     alloc: Global,
     asked: &Asked,
@@ -145,7 +158,7 @@ fn answer_source_alone<S: Source>(
     input: &mut Vec<u8>,
 ) -> Result<Reply, Status>
     requires bounds { IsWithinBounds asked.now }
-    requires one { asked.now.workers ≡ 1 }
+    requires one { asked.now.job ≡ Job.Decide → asked.now.workers ≡ 1 }
     ensures made { IsMadeOf asked.now (source_change S.Source source.old source.new) result }
     ensures count { S.faults source.old ≤ S.faults source.new }
 {

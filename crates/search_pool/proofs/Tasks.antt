@@ -1,19 +1,33 @@
 -- What lies under the lock before and after a claim or a settlement.
-use Rattle.std.proofs.Common.{◌≡◌, ◌≢◌, sym, subst, refl, ℕ, ◌<◌, ◌≤◌, ◌+◌, ◌-◌, ◌^◌, arith, None}
+use Rattle.std.proofs.Common.{◌≡◌, ◌≢◌, ap₂, sym, subst, refl, ℕ, ◌<◌, ◌≤◌, ◌+◌, ◌-◌, ◌^◌, arith, None}
 use Rattle.grid_core.specs.declared.grid.TheConstants.{MAX_SIZE}
 use Rattle.grid_core.specs.Diagram.{size}
+use Rattle.grid_keys.specs.declared.least_form.LeastForm.{LeastForm}
 use Rattle.next_moves.specs.Offers.{Neighbourhood}
+use Rattle.search_book.specs.declared.answer.Ticket.{Ticket}
 use Rattle.search_book.specs.declared.answer.Settled.{Settled}
 use Rattle.search_book.specs.declared.answer.Settled.TheVariants.{Done, Late, Stranger}
 use Rattle.search_book.specs.State.{State}
 use Rattle.search_book.specs.Sound.{IsSound}
-use Rattle.search_book.specs.Answers.{AnswersSettle}
+use Rattle.search_book.specs.Claim.{ClaimsEntry}
+use Rattle.search_book.specs.Answers.{AnswersSettle, IsTicket}
 use Rattle.search_book.proofs.Histories.{as_many_events}
 use Rattle.search_book.proofs.Recorded.{done_adds_one, settle_when_over}
 use Rattle.search_pool.specs.declared.locked.Task.{Task}
 use Rattle.search_book.specs.Events.{settlements}
 use Rattle.search_pool.specs.Task.{AllowsOffers, IsTaskOf, Counts}
 use Rattle.search_pool.proofs.Settling.{ticket_small}
+
+-- a task with the entry and the diagram of a ticket and the cap of the book is the entry that was claimed
+pub task_of_ticket : (s t : State) (worker : ℕ) (ticket : Ticket) (task : Task) → task.id ≡ ticket.id → task.form ≡ ticket.form
+    → task.cap ≡ s.problem.cap → ClaimsEntry s worker ticket.id t → IsTicket s ticket → IsTaskOf s worker task t
+task_of_ticket s t worker ticket task id form cap claims names =
+    let at : ℕ → LeastForm → Ticket = λ i f. record { id = i; form = f } in
+    record {
+      claims = subst (λ (i : ℕ). ClaimsEntry s worker i t) (sym id) claims;
+      ticket = subst (λ (k : Ticket). IsTicket s k) (ap₂ at (sym id) (sym form)) names;
+      cap = cap;
+    }
 
 -- what is handed out has offers within the cap of its book
 pub allows_offers : (s t : State) (worker : ℕ) (task : Task) → IsSound s → IsTaskOf s worker task t → AllowsOffers task

@@ -25,11 +25,11 @@ pub record IsTaskOf (s : State) (worker : ℕ) (task : Task) (t : State) : Type 
   pub ticket : IsTicket s (record { id = task.id; form = task.form })
   pub cap : task.cap ≡ s.problem.cap
 
--- what a worker is handed in the state s, and the state t after it
-abbrev pub IsHanded : State → ℕ → TaskAnswer → State → Type 0
-IsHanded s worker (Work task) t = IsTaskOf s worker task t
-IsHanded s worker Later t = IsAllClaimed s × (t ≡ s)
-IsHanded s worker Over t = (s.end ≢ None) × (t ≡ s)
+-- the answer to a worker that asks for a task in the state s, and the state t after it
+abbrev pub IsTaskAnswer : State → ℕ → TaskAnswer → State → Type 0
+IsTaskAnswer s worker (Work task) t = IsTaskOf s worker task t
+IsTaskAnswer s worker Later t = IsAllClaimed s × (t ≡ s)
+IsTaskAnswer s worker Over t = (s.end ≢ None) × (t ≡ s)
 
 -- how many settlements a seat counts for this answer
 abbrev pub settlements_of : Settled → ℕ

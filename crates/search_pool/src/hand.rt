@@ -15,12 +15,48 @@ use std::marker::Model;
 use std::sync::Wait;
 use std::sync::ledger::Ledger;
 
-/// The offers of a task, with the ids at which their keys may stand in the book, where these were looked up.
+/// The offers of a task, with the ids at which their keys may be in the book, where these were looked up.
 #[derive(Drop)]
 struct Found {
     offers: Offers,
     ids: [u32; MAX_OFFERS],
     is_hinted: bool,
+}
+
+impl Found {
+    /// Looks up ids for the keys of the offers.
+    fn look(&mut self, table: &HintTable) {
+        let Found {
+            offers,
+            ids,
+            is_hinted,
+        } = self;
+        table.look(offers.offers(), ids.as_mut_slice());
+        *is_hinted = true;
+    }
+
+    /// Settles the entry with this id with these offers, and with the ids as hints, if they were looked up. Answers whom that wakes.
+    fn settle<L: Ledger, M: Ledger, K: OfProblem, R: Wait>(
+        &mut self,
+        rt: &R,
+        shared: &SharedBook<L, M, K>,
+        seat: &mut Seat<L, M>,
+        id: u32,
+    ) -> Waking
+        ensures worker { seat.new.worker ≡ seat.old.worker }
+        ensures made { seat.old.made ≤ seat.new.made }
+    {
+        let Found {
+            offers,
+            ids,
+            is_hinted,
+        } = self;
+        if *is_hinted {
+            shared.settle(rt, seat, id, offers, ids.as_mut_slice())
+        } else {
+            shared.settle(rt, seat, id, offers, &mut [])
+        }
+    }
 }
 
 /// Finds the offers of a first task, where there is room for them. This stands out of line: a function that is called for each task would
@@ -139,13 +175,7 @@ impl TaskPlace {
         if task.is_some() {
             if let Some(room) = found {
                 if let Some(found) = room.get_mut(0) {
-                    let Found {
-                        offers,
-                        ids,
-                        is_hinted,
-                    } = found;
-                    table.look(offers.offers(), ids.as_mut_slice());
-                    *is_hinted = true;
+                    found.look(table);
                 }
             }
         }
@@ -166,16 +196,7 @@ impl TaskPlace {
         let mut waking = Waking::Count(0);
         if let (Some(task), Some(room)) = (&*task, found) {
             if let Some(found) = room.get_mut(0) {
-                let Found {
-                    offers,
-                    ids,
-                    is_hinted,
-                } = found;
-                waking = if *is_hinted {
-                    shared.settle(rt, seat, task.id, offers, ids.as_mut_slice())
-                } else {
-                    shared.settle(rt, seat, task.id, offers, &mut [])
-                };
+                waking = found.settle(rt, shared, seat, task.id);
             }
         }
         *task = None;
@@ -186,7 +207,7 @@ impl TaskPlace {
 /// How many further tasks a worker has in hand at most.
 const OTHERS: usize = 15;
 
-/// The places of a worker: one for the task that it waits for, and further ones for those that it claims behind it where there is
+/// The places of a worker: one for the task that it waits for, and further ones for those that it claims after it where there is
 /// plenty.
 #[derive(Drop)]
 pub struct Hand {

@@ -1,4 +1,4 @@
-//! At which ids the keys of a shared book may stand.
+//! At which ids the keys of a shared book may be found.
 ghost use Rattle.std.specs.Prelude.{◌≡◌};
 
 use crate::hand::Hand;
@@ -60,7 +60,7 @@ impl Hints {
     }
 }
 
-/// Ids of entries by the keys that they have. Nothing is promised of an id: it may be that of another key, or of no entry. A word has a part
+/// Ids of entries by the keys that they have. Nothing is proved of an id: it may be that of another key, or of no entry. A word has a part
 /// of a key's hash in its upper half and an id in its lower one.
 #[derive(Drop)]
 pub struct HintTable {
@@ -129,7 +129,7 @@ fn blank_words(alloc: Global, keys: u32) -> Result<Vec<u64>, AllocError> {
     Ok(words)
 }
 
-/// A number for a key, whose upper half names a place and whose lower half tells keys of one place apart.
+/// A number for a key, whose upper half names a place and whose lower half distinguishes keys of one place.
 fn hash_of(key: &Packed) -> u64 {
     let x = key.x[0];
     let o = key.o[0];
@@ -144,7 +144,7 @@ fn lower(word: u128) -> u64 {
     (word % (1 << 64)) as u64
 }
 
-/// The upper half.
+/// The upper half of a word of a key.
 fn upper(word: u128) -> u64 {
     (word / (1 << 64)) as u64
 }

@@ -3,7 +3,7 @@ ghost use Rattle.std.specs.Prelude.{◌≡◌, ◌≤◌, true};
 ghost use Rattle.std.specs.Sync.Mutex.{mutex_guard_value};
 ghost use Rattle.search_pool.specs.Holding.{IsHolding};
 ghost use Rattle.search_pool.specs.Seats.{SeatState};
-ghost use Rattle.search_pool.specs.Task.{AllowsOffers, IsHanded, Counts};
+ghost use Rattle.search_pool.specs.Task.{AllowsOffers, IsTaskAnswer, Counts};
 
 use crate::locked::{Locked, Task, TaskAnswer, Waking};
 use crate::seat::Seat;
@@ -31,23 +31,23 @@ pub struct Holding<'a, L: Ledger, M: Ledger, K: OfProblem> {
     guard: MutexGuard<'a, Locked<L, M, K>>,
 }
 
-/// The lock, still held, behind the call of its holding.
+/// The lock, still held, after the call of its holding.
 #[derive(Drop)]
 pub struct Called<'a, L: Ledger, M: Ledger, K: OfProblem> {
     guard: MutexGuard<'a, Locked<L, M, K>>,
 }
 
 /// Room for eight words, as many as a line of memory has.
-type Line = [u64; 8];
+type CacheLine = [u64; 8];
 
 /// A lock with nothing under it. Who has it makes all holdings of a hand, and meets others at the lock of the book only where they had no plenty
 /// of entries or wait for a task: so the book, and its lock, mostly stay in one processor's cache. The lines beside this lock keep it apart from
 /// them, since those who wait for it write to its line.
 #[derive(Drop)]
 pub struct TurnLock {
-    ahead: Line,
+    ahead: CacheLine,
     lock: Mutex<Turn>,
-    behind: Line,
+    behind: CacheLine,
 }
 
 /// What lies under the lock of turns: nothing.
@@ -112,7 +112,7 @@ impl<'a, L: Ledger, M: Ledger, K: OfProblem> Holding<'a, L, M, K> {
     /// One claim of the book, as `Locked::claim` has it.
     pub fn claim(self, seat: &mut Seat<L, M>) -> (TaskAnswer, Called<'a, L, M, K>)
         ensures book { IsHolding seat.old.worker (mutex_guard_value self.entry.guard).book (mutex_guard_value result.1.guard).book }
-        ensures handed { IsHanded (mutex_guard_value self.entry.guard).book seat.old.worker result.0
+        ensures answer { IsTaskAnswer (mutex_guard_value self.entry.guard).book seat.old.worker result.0
             (mutex_guard_value result.1.guard).book }
         ensures work { (task : Task) → result.0 ≡ TaskAnswer.Work task → AllowsOffers task }
         ensures over { result.0 ≡ TaskAnswer.Over → seat.new.saw_end ≡ true }
@@ -120,8 +120,8 @@ impl<'a, L: Ledger, M: Ledger, K: OfProblem> Holding<'a, L, M, K> {
         ensures made { seat.new.made ≡ seat.old.made }
     {
         let Holding { mut guard } = self;
-        let handed = guard.claim(seat);
-        (handed, Called { guard })
+        let answer = guard.claim(seat);
+        (answer, Called { guard })
     }
 
     /// One settlement of the book, as `Locked::settle` has it.

@@ -3,13 +3,13 @@ ghost use Rattle.std.specs.Prelude.{◌≡◌, ◌≢◌, ◌<◌, ◌≤◌, �
 ghost use Rattle.search_book.specs.Events.{settlements};
 ghost use Rattle.search_pool.specs.Holding.{IsHolding};
 ghost use Rattle.search_pool.specs.Seats.{SeatState, all_made, how_many_saw_end};
-ghost use Rattle.search_pool.specs.Task.{AllowsOffers, IsHanded, Counts};
+ghost use Rattle.search_pool.specs.Task.{AllowsOffers, IsTaskAnswer, Counts};
 
 use crate::seat::Seat;
 use crate::shared_problem::OfProblem;
 use grid_keys::LeastForm;
 use next_moves::Offers;
-use search_book::{Book, Claim, Settled};
+use search_book::{Book, Claim, Settled, Ticket};
 use std::marker::PhantomData;
 use std::sync::ledger::{Book as Tally, Ledger, Share};
 
@@ -114,7 +114,7 @@ impl<L: Ledger, M: Ledger, K: OfProblem> Locked<L, M, K> {
     #[tactic(auto, using(crate::proofs::Holdings::claim_holds, crate::proofs::Holdings::claim_stays, search_book::proofs::Recorded::claim_keeps_settlements,))]
     pub fn claim(&mut self, seat: &mut Seat<L, M>) -> TaskAnswer
         ensures book { IsHolding seat.old.worker self.old.book self.new.book }
-        ensures handed { IsHanded self.old.book seat.old.worker result self.new.book }
+        ensures answer { IsTaskAnswer self.old.book seat.old.worker result self.new.book }
         ensures work { (task : Task) → result ≡ TaskAnswer.Work task → AllowsOffers task }
         ensures over { result ≡ TaskAnswer.Over → seat.new.saw_end ≡ true }
         ensures worker { seat.new.worker ≡ seat.old.worker }
@@ -128,16 +128,8 @@ impl<L: Ledger, M: Ledger, K: OfProblem> Locked<L, M, K> {
         } = self;
         let cap = book.problem().cap;
         match book.claim(seat.worker()) {
-            Claim::Work(ticket) => TaskAnswer::Work(Task {
-                id: ticket.id,
-                form: ticket.form,
-                cap,
-                plenty: is_plenty(book),
-            }),
-            Claim::Later => {
-                *waiting = waiting.saturating_add(1);
-                TaskAnswer::Later
-            }
+            Claim::Work(ticket) => TaskAnswer::Work(task_of(book, ticket, cap)),
+            Claim::Later => later(waiting),
             Claim::Over(_) => {
                 seat.note_end(end_ledger);
                 TaskAnswer::Over
@@ -145,7 +137,7 @@ impl<L: Ledger, M: Ledger, K: OfProblem> Locked<L, M, K> {
         }
     }
 
-    /// A worker that waited does so no more. No call of the book.
+    /// Counts one worker less as waiting. No call of the book.
     pub fn woken(&mut self)
         ensures { self.new.book ≡ self.old.book }
     {
@@ -182,7 +174,7 @@ impl<L: Ledger, M: Ledger, K: OfProblem> Locked<L, M, K> {
         }
     }
 
-    /// The book, with all its seats given back: the number is what their workers made. It is of the problem that it was of.
+    /// Takes all its seats back: the book, and how many settlements their workers made. The book's problem is the one that K stands for.
     pub fn close(self, seats: Vec<Seat<L, M>>) -> (Book, u64)
         requires all_made_shares { vec_len seats ≡ L.parts }
         requires all_end_shares { vec_len seats ≡ M.parts }
@@ -207,6 +199,28 @@ impl<L: Ledger, M: Ledger, K: OfProblem> Locked<L, M, K> {
         let settled = book.settles();
         (book, settled)
     }
+}
+
+/// The task of a ticket.
+fn task_of(book: &Book, ticket: Ticket, cap: u8) -> Task
+    ensures id { result.id ≡ ticket.id }
+    ensures form { result.form ≡ ticket.form }
+    ensures cap { result.cap ≡ cap }
+{
+    Task {
+        id: ticket.id,
+        form: ticket.form,
+        cap,
+        plenty: is_plenty(book),
+    }
+}
+
+/// Counts one worker more as waiting, and answers that there is nothing now.
+fn later(waiting: &mut u32) -> TaskAnswer
+    ensures { result ≡ TaskAnswer.Later }
+{
+    *waiting = waiting.saturating_add(1);
+    TaskAnswer::Later
 }
 
 /// Whether there is plenty of entries that are not settled.

@@ -29,7 +29,7 @@ const STACK: usize = 4_194_304;
 
 /// Searches with 1 to `MAX_WORKERS` workers at one book, until each of them has seen its end. Each has a thread of
 /// its own; those for which none can be started work in the calling thread, one after the other, once the threads have
-/// ended. What is asked of the problem is as for `alone`. Want of memory for the book or for the seats is the one error.
+/// ended. The problem must be as for `alone`. The only error is that there is no memory for the book or the seats.
 pub fn pool<R: Threads + Wait + Sync, G: Gate + Sync>(
     rt: &R,
     alloc: Global,
@@ -48,9 +48,9 @@ pub fn pool<R: Threads + Wait + Sync, G: Gate + Sync>(
         rt,
         alloc,
         problem,
-        workers,
         gate,
         Blanks {
+            workers,
             made: Blank::new(parts),
             ends: Blank::new(parts),
         },
@@ -58,9 +58,10 @@ pub fn pool<R: Threads + Wait + Sync, G: Gate + Sync>(
     Ok(Finding::counted(book, settled))
 }
 
-/// The blanks of the ledger of settlements and of that of ends.
+/// Blanks for so many workers: that of the ledger of settlements, and that of the ledger of ends.
 #[derive(Drop)]
 struct Blanks {
+    workers: u32,
     made: Blank,
     ends: Blank,
 }
@@ -77,22 +78,25 @@ fn run_workers<
     rt: &R,
     alloc: Global,
     problem: Problem,
-    workers: u32,
     gate: &G,
     blanks: Blanks,
 ) -> Result<(Book, u64), OutOfMemory>
     requires bounded { IsBounded problem }
     requires of_problem { problem ≡ K.problem }
-    requires some { 1 ≤ workers }
-    requires workers { workers ≤ MAX_WORKERS }
-    requires made_blank { (blanks.made.name ≡ L.name) × (blanks.made.parts ≡ L.parts) × (L.parts ≡ workers) }
-    requires end_blank { (blanks.ends.name ≡ M.name) × (blanks.ends.parts ≡ M.parts) × (M.parts ≡ workers) }
+    requires some { 1 ≤ blanks.workers }
+    requires workers { blanks.workers ≤ MAX_WORKERS }
+    requires made_blank { (blanks.made.name ≡ L.name) × (blanks.made.parts ≡ L.parts) × (L.parts ≡ blanks.workers) }
+    requires end_blank { (blanks.ends.name ≡ M.name) × (blanks.ends.parts ≡ M.parts) × (M.parts ≡ blanks.workers) }
     ensures problem { IfOk result (λ closed. closed.0.problem ≡ problem) }
     ensures over { IfOk result (λ closed. closed.0.end ≢ None) }
     ensures settled { IfOk result (λ closed. closed.1 ≡ settlements closed.0.history) }
 {
     let book = Book::begin(alloc, problem)?;
-    let Blanks { made, ends } = blanks;
+    let Blanks {
+        workers,
+        made,
+        ends,
+    } = blanks;
     let (shared, mut seats): (SharedBook<L, M, K>, Vec<Seat<L, M>>) = SharedBook::new(
         alloc, book, workers, made, ends,
     )?;
@@ -116,7 +120,7 @@ fn work_all<
     }
 }
 
-/// Each seat's worker works in a thread of its own, if one can be started; the calling thread waits for them. No clause says what a
+/// Each seat's worker works in a thread of its own, if one can be started; the calling thread waits for them. It is not proved what a
 /// thread makes of a seat.
 fn work_in_threads<
     L: Ledger + Send + Sync,

@@ -6,23 +6,24 @@ ghost use Rattle.search_pool.specs.Seats.{SeatState, fresh_seats, all_made, how_
 ghost use Rattle.search_pool.specs.Task.{AllowsOffers};
 
 use crate::gate::Gate;
-use crate::hand::Hand;
+use crate::hand::{Hand, TaskPlace};
 use crate::hints::Hints;
 use crate::holding::{BookLock, TurnLock};
 use crate::locked::{Locked, Task, TaskAnswer, Waking, allows_plenty};
+use crate::many::MAX_WORKERS;
 use crate::seat::Seat;
 use crate::shared_problem::OfProblem;
 use memory_core::OutOfMemory;
 use next_moves::Offers;
 use search_book::Book;
 use std::alloc::Global;
-use std::sync::ledger::{Blank, Ledger};
+use std::sync::ledger::{Blank, Ledger, Share};
 use std::sync::{Condvar, Wait};
 
 /// A book under a lock, for workers in threads of their own. It is of the problem that the type K stands for. Whenever the lock is free
-/// the book is sound and replays its own history. Each holding of the lock makes at most one event, by clause: its call, a claim or a
+/// the book is sound and replays its own history. Each holding of the lock makes at most one event, as is proved: its call, a claim or a
 /// settlement, uses it up, and what lies under the lock is reached by a holding alone. Offers are found without the lock, and so are hints
-/// of where their keys stand, under a lock of their own. Two ledgers tie the book to its seats: one counts settlements, and the other the
+/// of where their keys are, under a lock of their own. Two ledgers tie the book to its seats: one counts settlements, and the other the
 /// workers that saw the end.
 #[derive(Drop)]
 pub struct SharedBook<L: Ledger, M: Ledger, K: OfProblem> {
@@ -35,7 +36,7 @@ pub struct SharedBook<L: Ledger, M: Ledger, K: OfProblem> {
 impl<L: Ledger, M: Ledger, K: OfProblem> SharedBook<L, M, K> {
     /// A book to share, whose history is still empty, with one seat for each of 1 to `MAX_WORKERS` workers, by their
     /// numbers from 0. The two blanks are of the ledger of settlements and of that of ends, which have as many parts as
-    /// there are workers. Memory is taken for the seats and for one list of offers a worker; want of it is the one error, and the book
+    /// there are workers. Memory is taken for the seats and for one list of offers a worker; that it ran out is the only error, and the book
     /// is dropped. Where the budget allows plenty of entries more lists and hints are taken; refused memory for these costs time alone.
     pub fn new(
         alloc: Global,
@@ -54,16 +55,7 @@ impl<L: Ledger, M: Ledger, K: OfProblem> SharedBook<L, M, K> {
     {
         let (made_ledger, mut made_share) = made_blank.open::<L>();
         let (end_ledger, mut end_share) = end_blank.open::<M>();
-        let mut seats = Vec::with_capacity(alloc, workers as usize)?;
-        for worker in 0..workers {
-            let hand = Hand::with_first(alloc)?;
-            seats.push_reserved(Seat::fresh(
-                worker,
-                made_share.split_off(1, 0),
-                end_share.split_off(1, 0),
-                hand,
-            ));
-        }
+        let mut seats = first_seats(alloc, workers, &mut made_share, &mut end_share)?;
         reserve_others(alloc, book.problem().budget, seats.as_mut_slice());
         let hints = Hints::new(alloc, book.problem());
         let shared = SharedBook {
@@ -77,8 +69,8 @@ impl<L: Ledger, M: Ledger, K: OfProblem> SharedBook<L, M, K> {
 
     /// Works at the book until its end is seen: settles what it has in hand, claims the next entry, and further ones where there is plenty of
     /// them, passes the gate and finds the offers for each, again and again. Where each entry is claimed and the book is not over it waits
-    /// for others. Each settlement that it makes is counted in its seat. What is promised holds where it returns. No clause says that it
-    /// takes no memory; as the code is written it doesn't: of all that it calls only the index of the book has an allocator, with room for
+    /// for others. Each settlement that it makes is counted in its seat. What is proved holds if it returns. That it takes no memory is not
+    /// proved; as the code is written it doesn't: of all that it calls only the index of the book has an allocator, with room for
     /// the whole budget, and the seat has room for the offers.
     pub fn work<R: Wait, G: Gate>(&self, rt: &R, seat: &mut Seat<L, M>, gate: &G)
         ensures worker { seat.new.worker ≡ seat.old.worker }
@@ -111,7 +103,7 @@ impl<L: Ledger, M: Ledger, K: OfProblem> SharedBook<L, M, K> {
     }
 
     /// Settles what is in hand and claims the next task, for which it may wait; where there was plenty it takes a turn for that, and only
-    /// waits behind it. False where the worker saw the end.
+    /// waits after it. False where the worker saw the end.
     fn next_hand<R: Wait>(&self, rt: &R, seat: &mut Seat<L, M>, hand: &mut Hand) -> bool
         ensures over { result ≡ false → seat.new.saw_end ≡ true }
         ensures worker { seat.new.worker ≡ seat.old.worker }
@@ -128,7 +120,7 @@ impl<L: Ledger, M: Ledger, K: OfProblem> SharedBook<L, M, K> {
         self.claim_one(rt, seat, hand)
     }
 
-    /// Settles what is in hand and claims the next tasks, in one turn, and wakes others behind it; false where there was no task.
+    /// Settles what is in hand and claims the next tasks, in one turn, and wakes others after it; false where there was no task.
     fn take_turn<R: Wait>(&self, rt: &R, seat: &mut Seat<L, M>, hand: &mut Hand) -> bool
         ensures worker { seat.new.worker ≡ seat.old.worker }
         ensures made { seat.old.made ≤ seat.new.made }
@@ -149,9 +141,25 @@ impl<L: Ledger, M: Ledger, K: OfProblem> SharedBook<L, M, K> {
         let Some(task) = self.one_more(rt, seat) else {
             return false;
         };
-        let mut plenty = task.plenty;
+        let plenty = task.plenty;
         hand.first.put(task);
-        for place in hand.others.iter_mut() {
+        self.claim_others(rt, seat, hand.others.as_mut_slice(), plenty);
+        true
+    }
+
+    /// Claims a task for each further place, each in a holding of its own, as long as there is plenty of them, and room.
+    fn claim_others<R: Wait>(
+        &self,
+        rt: &R,
+        seat: &mut Seat<L, M>,
+        others: &mut [TaskPlace],
+        plenty: bool,
+    )
+        ensures worker { seat.new.worker ≡ seat.old.worker }
+        ensures made { seat.new.made ≡ seat.old.made }
+    {
+        let mut plenty = plenty;
+        for place in others.iter_mut() {
             if !plenty || !place.has_room() {
                 break;
             }
@@ -161,7 +169,6 @@ impl<L: Ledger, M: Ledger, K: OfProblem> SharedBook<L, M, K> {
             plenty = task.plenty;
             place.put(task);
         }
-        true
     }
 
     /// Claims the next task, for which it may wait; false where the worker saw the end.
@@ -191,14 +198,14 @@ impl<L: Ledger, M: Ledger, K: OfProblem> SharedBook<L, M, K> {
         waking
     }
 
-    /// One more task, where there is one.
+    /// Claims one more task, without waiting for it. None where each entry is claimed, and where the worker saw the end.
     fn one_more<R: Wait>(&self, rt: &R, seat: &mut Seat<L, M>) -> Option<Task>
         ensures some { IfSome result (λ task. AllowsOffers task) }
         ensures worker { seat.new.worker ≡ seat.old.worker }
         ensures made { seat.new.made ≡ seat.old.made }
     {
-        let (handed, called) = self.lock.hold(rt).claim(seat);
-        match handed {
+        let (answer, called) = self.lock.hold(rt).claim(seat);
+        match answer {
             TaskAnswer::Work(task) => Some(task),
             TaskAnswer::Over => None,
             TaskAnswer::Later => {
@@ -218,8 +225,8 @@ impl<L: Ledger, M: Ledger, K: OfProblem> SharedBook<L, M, K> {
     {
         let mut holding = self.lock.hold(rt);
         for _ in rt.forever() {
-            let (handed, called) = holding.claim(seat);
-            match handed {
+            let (answer, called) = holding.claim(seat);
+            match answer {
                 TaskAnswer::Work(task) => return Some(task),
                 TaskAnswer::Over => return None,
                 TaskAnswer::Later => holding = called.wait(rt, &self.changed),
@@ -250,7 +257,7 @@ impl<L: Ledger, M: Ledger, K: OfProblem> SharedBook<L, M, K> {
         match waking {
             Waking::All => self.changed.notify_all(),
             Waking::Count(count) => {
-                for _ in 0..count {
+                for _ in 0..count.min(MAX_WORKERS) {
                     self.changed.notify_one();
                 }
             }
@@ -271,6 +278,33 @@ impl<L: Ledger, M: Ledger, K: OfProblem> SharedBook<L, M, K> {
         let SharedBook { lock, .. } = self;
         lock.into_inner().close(seats)
     }
+}
+
+/// One seat for each of `workers` workers, by their numbers from 0, with one part of each ledger and room for one list of offers. It fails only
+/// if memory runs out.
+fn first_seats<L: Ledger, M: Ledger>(
+    alloc: Global,
+    workers: u32,
+    made_share: &mut Share<L>,
+    end_share: &mut Share<M>,
+) -> Result<Vec<Seat<L, M>>, OutOfMemory>
+    requires made_share { (made_share.old.parts ≡ workers) × (made_share.old.amount ≡ 0) }
+    requires end_share { (end_share.old.parts ≡ workers) × (end_share.old.amount ≡ 0) }
+    ensures seats { IfOk result (λ seats. seats.items ≡ fresh_seats workers) }
+    ensures made_share { IfOk result (λ seats. (made_share.new.parts ≡ 0) × (made_share.new.amount ≡ 0)) }
+    ensures end_share { IfOk result (λ seats. (end_share.new.parts ≡ 0) × (end_share.new.amount ≡ 0)) }
+{
+    let mut seats = Vec::with_capacity(alloc, workers as usize)?;
+    for worker in 0..workers {
+        let hand = Hand::with_first(alloc)?;
+        seats.push_reserved(Seat::fresh(
+            worker,
+            made_share.split_off(1, 0),
+            end_share.split_off(1, 0),
+            hand,
+        ));
+    }
+    Ok(seats)
 }
 
 /// Takes room for the further tasks of each worker, where with this budget there can be plenty and as far as memory can be had.

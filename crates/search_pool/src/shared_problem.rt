@@ -3,7 +3,7 @@ ghost use Rattle.std.specs.Prelude.{◌≡◌};
 
 use std::marker::Brand;
 
-/// Of which problem a shared book is. A lock tells nothing of what lies under it but what its type says, so a type stands for the problem:
+/// Of which problem a shared book is. Of what lies under a lock proofs know only what its type says, so a type stands for the problem:
 /// the call that shares a book picks it.
 pub trait OfProblem {
     ghost use Rattle.search_book.specs.declared.problem.Problem.{Problem};

@@ -1,4 +1,4 @@
-//! The blocks by which diagrams are to be told apart, from the files that the words name for them.
+//! The blocks by which diagrams are to be distinguished, from the files that the words name for them.
 ghost use Rattle.std.specs.Prelude.{◌≡◌, Ok, IfOk, IfErr};
 ghost use Rattle.seek_core.specs.Given.{more_blocks};
 ghost use Rattle.seek.specs.Blocks.{AreBlocksOf, AddsBlocksOf, HasNoBlocks, IsBlocksFault, IsBlocksFailure};
@@ -9,7 +9,7 @@ use seek_parts::Texts;
 use seek_words::Asked;
 use std::alloc::Global;
 
-/// The blocks of all files that the words name for them, in this order. Else the answer is why one of the files can't be had.
+/// The blocks of all files that the words name for them, in this order. Otherwise the answer is why one of the files can't be had.
 pub(crate) fn read_blocks<'a, F: Texts>(
     alloc: Global,
     files: &F,
@@ -25,7 +25,7 @@ pub(crate) fn read_blocks<'a, F: Texts>(
     Ok(blocks)
 }
 
-/// The same blocks with those of a file behind them.
+/// These blocks, followed by those of a file.
 fn with_file<'a, F: Texts>(
     alloc: Global,
     files: &F,
@@ -42,7 +42,7 @@ fn with_file<'a, F: Texts>(
     }
 }
 
-/// The same blocks with those of a text behind them, which messages call by this name.
+/// These blocks, followed by those of a text, which messages call by this name.
 fn with_text<'a>(
     alloc: Global,
     blocks: Blocks,

@@ -24,7 +24,7 @@ use std::process::ExitCode;
 use std::thread::Threads;
 use std::time::Clock;
 
-/// Does what the words ask for, tells what is wrong, and answers the exit status of a status with which such a call ends. It is 0 only where
+/// Does what the words ask for, reports what is wrong, and answers the exit status of a status with which such a call ends. It is 0 only where
 /// a decision answers the words, or they ask for the help or the version. It is lent memory, threads, standard error and the clock, and no
 /// stream or file but those that are named.
 pub(crate) fn call<R: Threads + Sync + Eprint + Clock, F: Texts, P: Places, W: Write + Drop>(
@@ -57,7 +57,7 @@ fn answer<R: Threads + Sync + Eprint + Clock, F: Texts, P: Places, W: Write + Dr
     }
 }
 
-/// Writes the help or the version to the output. Of words that are refused it tells what is wrong.
+/// Writes the help or the version to the output. Of words that are refused it reports what is wrong.
 fn answer_words<R: Eprint, P: Places, W: Write + Drop>(
     rt: &R,
     alloc: Global,
@@ -79,7 +79,7 @@ fn answer_words<R: Eprint, P: Places, W: Write + Drop>(
     }
 }
 
-/// Tells why words are refused. Where memory is wanting for it, the text of `clap` stands as it is.
+/// Reports why words are refused. If there is no memory for that, the text of `clap` stays as it is.
 fn tell_refusal<R: Eprint>(rt: &R, alloc: Global, error: &clap::Error) {
     let _told = match refusal_text(alloc, error) {
         Ok(text) => eprint!(rt; "{text}"),

@@ -4,7 +4,7 @@ ghost use Rattle.knot_ports.specs.declared.status.Status.TheVariants as status;
 ghost use Rattle.seek.specs.Failure.{failure_status};
 
 use knot_ports::Status;
-use seek_parts::{PartFault, text_status};
+use seek_parts::{PartFault, text_status, write_memory};
 use std::{fmt, io};
 use text_items::TextFault;
 
@@ -39,7 +39,7 @@ pub(crate) enum Failure<'a> {
         name: &'a str,
         error: Option<io::Error>,
     },
-    /// Memory was wanting.
+    /// Memory ran out.
     OutOfMemory,
 }
 
@@ -75,17 +75,12 @@ fn write_blocks<W: fmt::Write>(
     }
 }
 
-/// Writes what stands for standard output, where its name in the system was refused.
+/// Writes what represents standard output, where its name in the system was refused.
 fn write_way<W: fmt::Write>(f: &mut fmt::Formatter<W>, error: &io::Error) -> fmt::Result {
     match error.kind() {
         io::ErrorKind::InvalidInput => write!(f, "; `--out -` is standard output"),
         _ => Ok(()),
     }
-}
-
-/// Writes that memory was wanting.
-fn write_memory<W: fmt::Write>(f: &mut fmt::Formatter<W>) -> fmt::Result {
-    write!(f, "there is not enough memory")
 }
 
 impl<'a> fmt::Display for Failure<'a> {
@@ -95,7 +90,7 @@ impl<'a> fmt::Display for Failure<'a> {
             Failure::Blocks { name, fault } => write_blocks(f, name, *fault),
             Failure::ReadAndWritten { name } => write!(
                 f,
-                "{name} is one of the files that are read, and the verdict would take its place: name another one behind `--out`"
+                "{name} is one of the files that are read, and the verdict would take its place: name another one after `--out`"
             ),
             Failure::Write {
                 name,

@@ -1,4 +1,4 @@
-//! What is read for a search: the parts of its input, and the blocks by which diagrams are to be told apart.
+//! What is read for a search: the parts of its input, and the blocks by which diagrams are to be distinguished.
 ghost use Rattle.std.specs.Prelude.{IfOk, IfErr};
 ghost use Rattle.seek_parts.specs.Parts.{ArePartsOf, all_due};
 ghost use Rattle.seek.specs.Blocks.{AreBlocksOf};
@@ -18,7 +18,7 @@ pub(crate) struct Inputs<'a> {
     pub(crate) blocks: Blocks,
 }
 
-/// Reads the parts and the blocks of what is asked. Else the answer is why one of them can't be had.
+/// Reads the parts and the blocks of what is asked. Otherwise the answer is why one of them can't be had.
 pub(crate) fn read_inputs<'a, F: Texts>(
     alloc: Global,
     files: &F,

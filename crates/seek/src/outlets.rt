@@ -3,7 +3,7 @@
 use knot_ports::StdSink;
 use std::alloc::Global;
 
-/// Where to a verdict may go: a file at one of all paths, or standard output, or what stands in for these.
+/// Where to a verdict may go: a file at one of all paths, or standard output, or what takes the place of these.
 #[derive(Drop)]
 pub(crate) struct Outlets<P, W> {
     pub(crate) places: P,

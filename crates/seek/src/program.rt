@@ -11,7 +11,7 @@ use std::process::ExitCode;
 use std::thread::Threads;
 use std::time::Clock;
 
-/// Does what the words ask for, by `call`. Where none came it tells why, and ends with 7 or 10.
+/// Does what the words ask for, by `call`. Where none came it reports why, and ends with 7 or 10.
 pub(crate) fn program<R: Threads + Sync + Eprint + Clock, F: Texts, P: Places, W: Write + Drop>(
     rt: &R,
     alloc: Global,

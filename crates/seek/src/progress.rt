@@ -1,4 +1,4 @@
-//! How far a search is, told on standard error.
+//! How far a search is, reported on standard error.
 
 use meeting_walks::{Progress, Watch};
 use seek_words::Talk;
@@ -8,7 +8,7 @@ use std::time::{Clock, Duration, Instant};
 /// So many milliseconds lie between two lines at least.
 const PAUSE: u64 = 500;
 
-/// How it is told.
+/// How it is reported.
 #[derive(Clone, Copy, Debug, PartialEq, Eq)]
 enum Way {
     /// Not at all.
@@ -19,21 +19,21 @@ enum Way {
     OneLine,
 }
 
-/// Tells how far a search is, at most twice a second.
+/// Reports how far a search is, at most twice a second.
 #[derive(Drop)]
 pub(crate) struct Teller<'a, R> {
     rt: &'a R,
     way: Way,
-    /// When it was told last.
+    /// When it was reported last.
     last: Option<Instant>,
-    /// Whether a line stands on the terminal.
+    /// Whether a line is on the terminal.
     is_written: bool,
     /// How many steps the first worker has made.
     steps: u64,
 }
 
 impl<'a, R: Eprint + Clock> Teller<'a, R> {
-    /// Tells where standard error is a terminal, or where it is asked for; on a terminal first when half a second has passed.
+    /// Reports where standard error is a terminal, or where it is asked for; on a terminal first when half a second has passed.
     pub(crate) fn new(rt: &'a R, talk: Talk, is_terminal: bool) -> Teller<'a, R> {
         let way = way_of(talk, is_terminal);
         Teller {
@@ -45,7 +45,7 @@ impl<'a, R: Eprint + Clock> Teller<'a, R> {
         }
     }
 
-    /// Whether it is time to tell, which is noted then.
+    /// Whether it is time to report, which is noted then.
     fn is_due(&mut self) -> bool {
         let Ok(now) = Instant::now(self.rt) else {
             return false;
@@ -57,7 +57,7 @@ impl<'a, R: Eprint + Clock> Teller<'a, R> {
         is_due
     }
 
-    /// Whether it was told long enough before, or never.
+    /// Whether it was reported long enough before, or never.
     fn is_past(&self, now: Instant) -> bool {
         match self.last {
             Some(last) => now.duration_since(last) >= Duration::from_millis(PAUSE),
@@ -90,7 +90,7 @@ impl<'a, R: Eprint + Clock> Teller<'a, R> {
     }
 }
 
-/// When it counts as told last at the beginning: on a terminal then, and else never.
+/// When it counts as reported last at the beginning: on a terminal then, and else never.
 fn begun<R: Clock>(rt: &R, way: Way) -> Option<Instant> {
     match way {
         Way::OneLine => Instant::now(rt).ok(),

@@ -1,4 +1,4 @@
-//! What is told on standard error.
+//! What is reported on standard error.
 ghost use Rattle.std.specs.Prelude.{◌≡◌, ◌≢◌};
 ghost use Rattle.knot_ports.specs.declared.status.Status.TheVariants as status;
 ghost use Rattle.seek.specs.Failure.{failure_status};
@@ -16,14 +16,14 @@ use verdict_core::{Listed, QuandleName};
 /// What an input without parts is called in messages.
 const INPUT: &str = "the problem";
 
-/// Tells that standard input is read, where it is a terminal and the words don't ask for silence.
+/// Reports that standard input is read, where it is a terminal and the words don't ask for silence.
 pub(crate) fn tell_reading<R: Eprint>(rt: &R, is_terminal: bool, asked: &Asked) {
     if asked.talk != Talk::Quiet && asked.reads_input() && is_terminal {
         let _told = eprintln!(rt; "seek: standard input is read, up to its end (Ctrl-D)");
     }
 }
 
-/// Tells what was tried in vain, but where the words ask for silence: the status. The first worker has made so many steps.
+/// Reports what was tried in vain, but where the words ask for silence: the status. The first worker has made so many steps.
 pub(crate) fn tell_tried<R: Eprint>(rt: &R, asked: &Asked, tried: &Tried, made: u64) -> Status
     ensures { result ≡ status.Unknown }
 {
@@ -38,7 +38,7 @@ pub(crate) fn tell_tried<R: Eprint>(rt: &R, asked: &Asked, tried: &Tried, made: 
     Status::Unknown
 }
 
-/// Tells that the input is too long: the status.
+/// Reports that the input is too long: the status.
 pub(crate) fn tell_long<R: Eprint>(rt: &R, parts: &Parts) -> Status
     ensures { result ≡ status.Limit }
 {
@@ -46,7 +46,7 @@ pub(crate) fn tell_long<R: Eprint>(rt: &R, parts: &Parts) -> Status
     tell(rt, &Failure::Part(PartFault::Long { name }))
 }
 
-/// Tells what went wrong: the status.
+/// Reports what went wrong: the status.
 pub(crate) fn tell<R: Eprint>(rt: &R, failure: &Failure) -> Status
     ensures is { result ≡ failure_status failure.now }
     ensures failed { result ≢ status.Done }
@@ -55,7 +55,7 @@ pub(crate) fn tell<R: Eprint>(rt: &R, failure: &Failure) -> Status
     failure.status()
 }
 
-/// Tells why a line is bad: the status. Where memory is wanting for the reason, the line is told without one.
+/// Reports why a line is bad: the status. If there is no memory for the reason, the line is reported without one.
 pub(crate) fn tell_line<R: Eprint>(
     rt: &R,
     alloc: Global,
@@ -78,8 +78,8 @@ pub(crate) fn tell_line<R: Eprint>(
     kind
 }
 
-/// Tells for which reason a line is bad, and which form a braid among the words has, if it is one. There is no reason where memory was
-/// wanting for it.
+/// Reports for which reason a line is bad, and which form a braid among the words has, if it is one. There is no reason if there was no
+/// memory for it.
 fn tell_reason<R: Eprint>(rt: &R, name: &str, line: usize, reason: Option<Reason>) {
     let Some(reason) = reason else {
         let _told = eprintln!(rt;
@@ -95,7 +95,7 @@ fn tell_reason<R: Eprint>(rt: &R, name: &str, line: usize, reason: Option<Reason
     let _told = eprintln!(rt; "seek: {name}, line {line}: {reason}{form}");
 }
 
-/// The name of the part in which a line of the input stands, and the line's number there.
+/// The name of the part in which a line of the input is, and the line's number there.
 fn place_of<'a>(parts: &Parts<'a>, at: usize) -> (&'a str, usize) {
     match place(parts.texts(), at) {
         Some((part, line)) => (parts.name(part).unwrap_or(INPUT), line),
@@ -104,8 +104,7 @@ fn place_of<'a>(parts: &Parts<'a>, at: usize) -> (&'a str, usize) {
 }
 
 /// What is said of a braid among the words that has another form.
-const BRAID_FORM: &str =
-    "; behind --braid stand the number of strands and the letters, as \"2 1 1 1\"";
+const BRAID_FORM: &str = "; --braid takes the number of strands and the letters, as \"2 1 1 1\"";
 
 /// Whether a line has not the form of a braid.
 fn is_of_form(reason: Reason) -> bool {
@@ -153,7 +152,7 @@ fn write_quandles<W: fmt::Write>(f: &mut fmt::Formatter<W>, quandles: &[Listed])
 fn write_vain<W: fmt::Write>(f: &mut fmt::Formatter<W>, count: usize, last: Name) -> fmt::Result {
     write!(
         f,
-        " none of the {count} quandles tried that fit both, up to {last}, tells them apart"
+        " none of the {count} quandles tried that fit both, up to {last}, distinguishes them"
     )
 }
 
@@ -214,7 +213,7 @@ fn write_early<W: fmt::Write>(f: &mut fmt::Formatter<W>, workers: u32, made: u64
     };
     write!(
         f,
-        "; {who} stopped after {made}, which met nothing new for long{behind}"
+        "; {who} stopped after {made}, since nothing new was met for long{behind}"
     )
 }
 

@@ -15,7 +15,7 @@ use crate::outlets::Outlets;
 use crate::progress::Teller;
 use crate::report::{tell, tell_line, tell_long, tell_tried};
 use knot_ports::{Sink, Status, StdSink};
-use seek_core::{Bounds, Ending, run};
+use seek_core::{Bounds, Ending, Resources, run};
 use seek_parts::{Places, TextSink};
 use seek_words::Asked;
 use std::alloc::Global;
@@ -56,7 +56,7 @@ impl<'a, R: Threads + Sync + Eprint + Clock> Search<'a, R> {
         }
     }
 
-    /// Seeks a verdict on what was read, writes it to the sink over standard output, and tells how that ended: the status.
+    /// Seeks a verdict on what was read, writes it to the sink over standard output, and reports how that ended: the status.
     fn seek_to_output<W: Write + Drop>(&self, sink: &mut StdSink<W>) -> Status
         ensures { IsSoughtToSink (joined self.now.inputs.now.parts.texts) self.now.inputs.now.blocks
             (port_held W.contents sink.old) (port_held W.contents sink.new) result }
@@ -69,7 +69,7 @@ impl<'a, R: Threads + Sync + Eprint + Clock> Search<'a, R> {
         self.tell_ending(&ended, &failure)
     }
 
-    /// Seeks a verdict on what was read, puts it in a file at a path, whole or not at all, and tells its end: the status.
+    /// Seeks a verdict on what was read, puts it in a file at a path, whole or not at all, and reports its end: the status.
     fn seek_to_file<P: Places>(&self, places: &mut P, path: &str) -> Status
         ensures { IsSoughtToFile (joined self.now.inputs.now.parts.texts) self.now.inputs.now.blocks
             (P.standing places.old) (P.standing places.new) path.now result }
@@ -83,7 +83,7 @@ impl<'a, R: Threads + Sync + Eprint + Clock> Search<'a, R> {
         }
     }
 
-    /// The text of a verdict on what was read; the error is the status of a search that finds none, which is told.
+    /// The text of a verdict on what was read; the error is the status of a search that finds none, which is reported.
     fn find_text(&self) -> Result<TextSink, Status>
         ensures found { IfOk result (λ text. IsDecisionText (joined self.now.inputs.now.parts.texts) text.bytes) }
         ensures none { IfErr result (λ s. s ≢ status.Done) }
@@ -98,7 +98,7 @@ impl<'a, R: Threads + Sync + Eprint + Clock> Search<'a, R> {
         }
     }
 
-    /// Seeks a verdict, writes it to the sink, and tells how far the search is.
+    /// Seeks a verdict, writes it to the sink, and reports how far the search is.
     fn run_told<K: Sink>(&self, sink: &mut K) -> Ended
         ensures { EndsSearch (joined self.now.inputs.now.parts.texts) self.now.inputs.now.blocks
             (held_of K.held K.faults sink.old) (held_of K.held K.faults sink.new) result.ending }
@@ -106,9 +106,10 @@ impl<'a, R: Threads + Sync + Eprint + Clock> Search<'a, R> {
         let (rt, alloc) = (self.rt, self.alloc);
         let mut watch = Teller::new(rt, self.asked.talk, self.is_terminal);
         let bounds = bounds_of(self.asked);
+        let resources = Resources { rt, alloc, bounds };
         let texts = self.inputs.parts.texts();
         let blocks = &self.inputs.blocks;
-        let ending = run(rt, alloc, texts, blocks, bounds, sink, &mut watch);
+        let ending = run(&resources, texts, blocks, sink, &mut watch);
         watch.end();
         Ended {
             ending,
@@ -116,7 +117,7 @@ impl<'a, R: Threads + Sync + Eprint + Clock> Search<'a, R> {
         }
     }
 
-    /// Tells how a search ended, where that is not with a verdict: the status. Where the sink failed, it was by this failure.
+    /// Reports how a search ended, where that is not with a verdict: the status. Where the sink failed, it was by this failure.
     fn tell_ending(&self, ended: &Ended, failure: &Failure) -> Status
         requires { ended.now.ending ≡ end.WriteFault → failure_status failure.now ≡ status.WriteFault }
         ensures { result ≡ ending_status ended.now.ending }
@@ -135,7 +136,7 @@ impl<'a, R: Threads + Sync + Eprint + Clock> Search<'a, R> {
     }
 }
 
-/// Puts a text in a file at a path, or tells that it can't be written: the status.
+/// Puts a text in a file at a path, or reports that it can't be written: the status.
 fn put_text<R: Eprint, P: Places>(rt: &R, places: &mut P, path: &str, text: &[u8]) -> Status
     ensures whole { result ≡ status.Done → PutsAt (P.standing places.old) (P.standing places.new) path.now text.now }
     ensures none { result ≢ status.Done → P.standing places.new ≡ P.standing places.old }
@@ -147,7 +148,7 @@ fn put_text<R: Eprint, P: Places>(rt: &R, places: &mut P, path: &str, text: &[u8
     }
 }
 
-/// Tells that a file can't be written: the status.
+/// Reports that a file can't be written: the status.
 fn tell_unwritten<R: Eprint>(rt: &R, path: &str, error: io::Error) -> Status
     ensures { (result ≡ status.WriteFault) ⊎ (result ≡ status.OutOfMemory) }
 {

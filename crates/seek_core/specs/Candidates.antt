@@ -29,7 +29,7 @@ is_named quandles name = list_any (λ (q : NamedQuandle). same_name q.name name)
 abbrev pub fitting : Diagram → Diagram → List NamedQuandle → List NamedQuandle → List NamedQuandle
 fitting d e others quandles = filter (λ (q : NamedQuandle). fits_diagrams d e q && not (is_named others q.name)) quandles
 
--- those of a problem, and then those by formula that are not among them
+-- the quandles that fit: those of a problem, and then those by formula that are not called like one of these
 abbrev pub candidate_quandles : Diagram → Diagram → List NamedQuandle → List NamedQuandle
 candidate_quandles d e listed = fitting d e [] listed ++ fitting d e listed formula_quandles
 

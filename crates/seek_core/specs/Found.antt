@@ -33,19 +33,19 @@ abbrev pub IsVerdictBy : Diagram → Diagram → Option NamedQuandle → Verdict
 IsVerdictBy d e (Some q) v = IsDifferentBy d e q v
 IsVerdictBy d e None v = IsEqualBy d e v
 
--- such a verdict, or none, only where no quandle separates the diagrams
+-- a verdict by the first quandle that separates the diagrams, or by moves; or none, only where no quandle separates them
 abbrev pub IsVerdictWhere : Diagram → Diagram → Option NamedQuandle → Option Verdict → Type 0
 IsVerdictWhere d e quandle (Some v) = IsVerdictBy d e quandle v
 IsVerdictWhere d e quandle None = quandle ≡ None
 
--- what is found is such a verdict, or evidence by numbers; nothing is found only where no quandle separates the diagrams, and there is no such
--- evidence
+-- what is found is a verdict by the first quandle that separates the diagrams or by moves, or evidence by numbers; nothing is found only where no
+-- quandle separates the diagrams, and there is no evidence by numbers
 abbrev pub IsFoundWhere : Diagram → Diagram → Option NamedQuandle → Option Evidence → Option Said → Type 0
 IsFoundWhere d e quandle evidence (Some (said.Verdict v)) = IsVerdictBy d e quandle v
 IsFoundWhere d e quandle evidence (Some (said.Evidence x)) = evidence ≡ Some x
 IsFoundWhere d e quandle evidence None = (quandle ≡ None) × (evidence ≡ None)
 
--- such a verdict on a pair of diagrams by the first of these quandles that separates them, or none
+-- a verdict on a pair of diagrams by the first of these quandles that separates them, or by moves; or none, where none of them separates them
 abbrev pub IsVerdictOn : SeededPair → List NamedQuandle → Option Verdict → Type 0
 IsVerdictOn p quandles o = IsVerdictWhere p.first p.second (first_separating p.first p.second quandles) o
 

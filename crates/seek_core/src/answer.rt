@@ -7,14 +7,13 @@ ghost use Rattle.verdict_core.specs.Diagrams.{column_count};
 ghost use Rattle.seek_core.specs.Answers.{IsTrueAnswer};
 
 use crate::blocks::Blocks;
-use crate::bounds::Bounds;
+use crate::bounds::Resources;
 use crate::finding::{SearchOutcome, find};
 use certificate_check::laws::what_holds_is_a_decision;
 use certificates::print_said;
 use knot_text::read_problem;
 use meeting_walks::Watch;
 use memory_core::{Items, OutOfMemory};
-use std::alloc::Global;
 use std::thread::Threads;
 use text_items::TextFault;
 use verdict_core::{Listed, ProblemText};
@@ -27,7 +26,7 @@ pub struct Tried {
     pub columns: (u8, u8),
     /// The quandles that fit both diagrams, none of which separates them.
     pub quandles: Items<Listed>,
-    /// How many of the blocks fit the seeds of both diagrams, none of which tells them apart.
+    /// How many of the blocks fit the seeds of both diagrams, none of which distinguishes them.
     pub blocks: usize,
 }
 
@@ -38,27 +37,25 @@ pub enum Answer {
     Decided(Items<u8>),
     /// Nothing was found.
     NotFound(Tried),
-    /// The first bad line has not the form of what is due there, or says what can't be, or stands behind the end.
+    /// The first bad line doesn't have the form of what is due there, or says what can't be, or follows the end.
     Malformed { line: usize },
     /// The first bad line exceeds a limit.
     Limit { line: usize },
 }
 
 /// The answer to the bytes of an input: a problem is decided where something can be said of its diagrams that is found by the blocks and within
-/// the bounds. Want of memory is the only error.
+/// the bounds. It fails only if memory runs out.
 pub fn answer_to<R: Threads + Sync, W: Watch>(
-    rt: &R,
-    alloc: Global,
+    resources: &Resources<'_, R>,
     bytes: &[u8],
     blocks: &Blocks,
-    bounds: Bounds,
     watch: &mut W,
 ) -> Result<Answer, OutOfMemory>
     ensures { IfOk result (λ a. IsTrueAnswer bytes.now blocks.now a) }
 {
     a_verdict_that_holds_is_a_decision();
-    match read_problem(alloc, bytes) {
-        Ok(problem) => answer_problem(rt, alloc, &problem, blocks, bounds, watch),
+    match read_problem(resources.alloc, bytes) {
+        Ok(problem) => answer_problem(resources, &problem, blocks, watch),
         Err(TextFault::OutOfMemory) => Err(OutOfMemory),
         Err(TextFault::Malformed { line }) => Ok(Answer::Malformed { line }),
         Err(TextFault::Limit { line }) => Ok(Answer::Limit { line }),
@@ -67,11 +64,9 @@ pub fn answer_to<R: Threads + Sync, W: Watch>(
 
 /// The answer to a problem, from whatever bytes it was read.
 fn answer_problem<R: Threads + Sync, W: Watch>(
-    rt: &R,
-    alloc: Global,
+    resources: &Resources<'_, R>,
     problem: &ProblemText,
     blocks: &Blocks,
-    bounds: Bounds,
     watch: &mut W,
 ) -> Result<Answer, OutOfMemory>
     requires { All HasQuandleText problem.now.quandles }
@@ -82,10 +77,10 @@ fn answer_problem<R: Threads + Sync, W: Watch>(
         said,
         quandles,
         blocks: fitting,
-    } = find(rt, alloc, problem, blocks, bounds, watch)?;
+    } = find(resources, problem, blocks, watch)?;
     match said {
         Some(said) => {
-            let text = print_said(alloc, &said)?;
+            let text = print_said(resources.alloc, &said)?;
             Ok(Answer::Decided(Items::from_vec(text)))
         }
         None => Ok(Answer::NotFound(in_vain(problem, quandles, fitting))),

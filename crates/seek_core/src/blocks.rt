@@ -1,4 +1,4 @@
-//! Blocks by which diagrams are to be told apart.
+//! Blocks by which diagrams are to be distinguished.
 ghost use Rattle.std.specs.Prelude.{◌≡◌, ◌++◌, [], OnOk};
 ghost use Rattle.std.specs.List.{All};
 ghost use Rattle.certificates.specs.Printed.{HasBlockText};
@@ -48,7 +48,7 @@ impl Blocks {
         self.list.as_slice()
     }
 
-    /// These blocks, followed by those of a text that has blocks alone. Else the fault of its first bad line, or want of memory.
+    /// These blocks, followed by those of a text that has blocks alone. Otherwise the fault of its first bad line, or `OutOfMemory`.
     pub fn with_text(self, alloc: Global, bytes: &[u8]) -> Result<Blocks, TextFault>
         ensures { Gives (λ b. b) result (more_blocks self bytes.now) }
     {

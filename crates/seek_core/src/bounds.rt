@@ -6,17 +6,17 @@ use std::alloc::Global;
 /// The most steps of the short walk, which joins most pairs of diagrams of one link. It takes some hundredths of a second.
 pub const SHORT_STEPS: u64 = 32_768;
 
-/// What bounds the search for moves, and how many seek. No clause says that the same bounds have the same answer.
+/// How the search for moves is bounded, and how many workers seek. That the same bounds have the same answer is not proved.
 #[derive(Clone, Copy, Debug, PartialEq, Eq)]
 pub struct Bounds {
     /// The seed of the first worker, and what bounds the walks of each.
     pub walks: meeting_walks::Bounds,
-    /// How many workers seek, each in a thread and with a seed of its own; 0 counts as 1. The one with the fewest steps is heard.
+    /// How many workers seek, each in a thread and with a seed of its own; 0 counts as 1. The answer is that of the one with the fewest steps.
     pub workers: u32,
 }
 
 impl Bounds {
-    /// What the walks go by.
+    /// What bounds the walks, and how many workers make them.
     pub(crate) fn plan(self) -> Plan {
         Plan {
             bounds: self.walks,
@@ -40,8 +40,8 @@ impl Bounds {
 
 /// What a search may use: threads and memory, within these bounds.
 #[derive(Drop)]
-pub(crate) struct Resources<'a, R> {
-    pub(crate) rt: &'a R,
-    pub(crate) alloc: Global,
-    pub(crate) bounds: Bounds,
+pub struct Resources<'a, R> {
+    pub rt: &'a R,
+    pub alloc: Global,
+    pub bounds: Bounds,
 }

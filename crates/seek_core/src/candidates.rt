@@ -11,7 +11,7 @@ use memory_core::OutOfMemory;
 use std::alloc::Global;
 use verdict_core::{Listed, QuandleName};
 
-/// Those of the listed quandles that fit both diagrams, and behind them those by formula that do, but for those that are listed.
+/// Those of the listed quandles that fit both diagrams, and after them those by formula that do, but for those that are listed.
 pub(crate) fn candidates(
     alloc: Global,
     first: &Grid,

@@ -11,12 +11,11 @@ ghost use Rattle.seek_core.specs.Parts.{joined};
 
 use crate::answer::{Answer, Tried, answer_to};
 use crate::blocks::Blocks;
-use crate::bounds::{Bounds, Resources};
+use crate::bounds::Resources;
 use crate::parts::join_parts;
 use knot_ports::{MAX_INPUT, Sink, Status, give_all};
 use meeting_walks::Watch;
 use memory_core::Items;
-use std::alloc::Global;
 use std::thread::Threads;
 
 /// How a call of `run` ended.
@@ -26,7 +25,7 @@ pub enum Ending {
     Done,
     /// Nothing was found.
     NotFound(Tried),
-    /// The first bad line has not the form of what is due there, or says what can't be, or stands behind the end.
+    /// The first bad line doesn't have the form of what is due there, or says what can't be, or follows the end.
     Malformed { line: usize },
     /// The first bad line exceeds a limit.
     Limit { line: usize },
@@ -34,12 +33,12 @@ pub enum Ending {
     TooLong,
     /// The sink failed.
     WriteFault,
-    /// Memory was wanting.
+    /// Memory ran out.
     OutOfMemory,
 }
 
 impl Ending {
-    /// The exit status of the program: it has the number of `knot`'s status of that name. For `Unknown` it means less: nothing was found.
+    /// The exit status of the program, with the number of `knot`'s status of that name. `Unknown` means less here: that nothing was found.
     pub fn status(&self) -> Status
         ensures { result ≡ ending_status self.now }
     {
@@ -57,17 +56,15 @@ impl Ending {
 /// Looks for what can be said of the two diagrams of an input, which comes in parts, and writes it to the sink: a verdict with its evidence, or
 /// evidence by numbers.
 ///
-/// Where it ends with status 0, such a text was written, what it says of the two diagrams is true, and behind the input `check` accepts it,
-/// where both are within its limit of bytes. Else nothing was written, or, where the sink failed, a front of such a text: the whole text is made
-/// before the first write. That anything is found is not promised; where nothing is, linking numbers agree, and neither the quandles nor the
-/// blocks that fit tell the two apart. A longer input than `MAX_INPUT` is answered by `TooLong`, or by want of memory, and the sink is said to
-/// have failed only where its count of faults rose, or stands at its last value.
+/// If it ends with status 0, such a text was written, what it says of the two diagrams is true, and `check` accepts it after the input,
+/// if both are within its limit of bytes. Otherwise nothing was written or, if the sink failed, a prefix of such a text: the whole text is made
+/// before the first write. That anything is found is not proved; if nothing is, linking numbers agree, and neither the quandles nor the
+/// blocks that fit distinguish the two. An input longer than `MAX_INPUT` is answered by `TooLong` or `OutOfMemory`, and `WriteFault` comes
+/// only where the sink's count of faults rose, or has reached its last value.
 pub fn run<R: Threads + Sync, K: Sink, W: Watch>(
-    rt: &R,
-    alloc: Global,
+    resources: &Resources<'_, R>,
     parts: &[Items<u8>],
     blocks: &Blocks,
-    bounds: Bounds,
     sink: &mut K,
     watch: &mut W,
 ) -> Ending
@@ -78,9 +75,8 @@ pub fn run<R: Threads + Sync, K: Sink, W: Watch>(
     ensures fault { result ≡ ending.WriteFault → Rose (K.faults sink.old) (K.faults sink.new) }
     ensures count { K.faults sink.old ≤ K.faults sink.new }
 {
-    let resources = Resources { rt, alloc, bounds };
-    match join_parts(alloc, parts) {
-        Ok(bytes) => run_whole(&resources, bytes.as_slice(), blocks, sink, watch),
+    match join_parts(resources.alloc, parts) {
+        Ok(bytes) => run_whole(resources, bytes.as_slice(), blocks, sink, watch),
         Err(_) => Ending::OutOfMemory,
     }
 }
@@ -102,8 +98,7 @@ fn run_whole<R: Threads + Sync, K: Sink, W: Watch>(
     if bytes.len() > MAX_INPUT {
         return Ending::TooLong;
     }
-    let (rt, alloc, bounds) = (resources.rt, resources.alloc, resources.bounds);
-    match answer_to(rt, alloc, bytes, blocks, bounds, watch) {
+    match answer_to(resources, bytes, blocks, watch) {
         Ok(answer) => deliver(answer, sink),
         Err(_) => Ending::OutOfMemory,
     }

@@ -26,7 +26,7 @@ pub const FIRST_QUANDLES: usize = 16;
 pub struct SearchOutcome {
     /// What can be said of the two diagrams, if anything was found.
     pub said: Option<Said>,
-    /// The quandles that fit both diagrams, in the order in which they were tried: behind one that separates them none was.
+    /// The quandles that fit both diagrams, in the order in which they were tried; after one that separates them none was tried.
     pub quandles: Vec<Listed>,
     /// How many of the blocks fit the seeds of both diagrams.
     pub blocks: usize,
@@ -40,22 +40,21 @@ pub struct SearchOutcome {
 /// 4. walks of at most `SHORT_STEPS` steps;
 /// 5. the other quandles;
 /// 6. walks within the bounds;
-/// 7. the blocks of more than `MAX_ORDER` colours that do, which cost most.
+/// 7. the blocks of more than `MAX_ORDER` colours that fit the seeds of both, which cost most.
 ///
 /// So it ends with evidence by numbers, with the verdict `different` by the first quandle that separates them, or with `equal` by a list of moves.
-/// Nothing is promised of what the walks find, and the watch has no say in it. Want of memory is the only error.
+/// Nothing is proved of what the walks find, and the watch has no influence on it. It fails only if memory runs out.
 pub fn find<R: Threads + Sync, W: Watch>(
-    rt: &R,
-    alloc: Global,
+    resources: &Resources<'_, R>,
     problem: &ProblemText,
     blocks: &Blocks,
-    bounds: Bounds,
     watch: &mut W,
 ) -> Result<SearchOutcome, OutOfMemory>
     requires { All HasQuandleText problem.now.quandles }
     ensures search { IfOk result (λ s. IsSearchOf problem.now blocks.now s) }
     ensures finding { IfOk result (λ s. IfSome s.said (λ x. IsFindingOf problem.now x)) }
 {
+    let alloc = resources.alloc;
     let first = problem.first.grid();
     let second = problem.second.grid();
     let _sizes = (first.size(), second.size());
@@ -63,8 +62,7 @@ pub fn find<R: Threads + Sync, W: Watch>(
     let seeds = SeedPair::of(alloc, &first, &second)?;
     let given = blocks.as_slice();
     let pair = Pair::new(&first, &second, &seeds);
-    let resources = Resources { rt, alloc, bounds };
-    let said = said_of(&resources, &pair, quandles.as_slice(), given, watch)?;
+    let said = said_of(resources, &pair, quandles.as_slice(), given, watch)?;
     Ok(SearchOutcome {
         said,
         quandles,
@@ -115,7 +113,7 @@ fn said_before_larger<R: Threads + Sync, W: Watch>(
     }
 }
 
-/// What tells two diagrams apart in the first three rounds: linking numbers, the first quandles, and the blocks that are not larger.
+/// What distinguishes two diagrams in the first three rounds: linking numbers, the first quandles, and the blocks that are not larger.
 fn told_first(
     alloc: Global,
     pair: &Pair,

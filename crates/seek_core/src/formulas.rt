@@ -9,8 +9,8 @@ use std::alloc::Global;
 use verdict_core::{Listed, QuandleName};
 
 /// The quandles by formula: the trivial one of order 2, all dihedral and Alexander ones from order 3 to `MAX_ORDER`, and the
-/// tetrahedral one, each once. The three that tell most come first, then the smaller orders before the larger ones, and of an order the
-/// dihedral one before the others, by their factors. Want of memory is the only error.
+/// tetrahedral one, each once. The three that distinguish most come first, then the smaller orders before the larger ones, and of an order the
+/// dihedral one before the others, by their factors. It fails only if memory runs out.
 pub fn formula_quandles(alloc: Global) -> Result<Vec<Listed>, OutOfMemory>
     ensures { IfOk result (λ v. v.items ≡ formula_quandles) }
 {

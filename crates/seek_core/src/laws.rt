@@ -55,7 +55,7 @@ pub fn quandles_by_formula_are_all_of_their_kinds()
 {}
 
 /// Where none of the candidates separates two diagrams, no listed quandle does, and none by formula. More than that: the first candidate
-/// that separates them is the first that does among the listed ones with those by formula behind them, so what is passed over takes no
+/// that separates them is the first that does among the listed ones followed by those by formula, so what is passed over takes no
 /// verdict away. For those by formula each listed quandle has to be the one that its name names, as in every problem that was read: else
 /// a listed one could bear the name of one by formula, and keep it from being tried.
 pub fn where_no_candidate_separates_no_quandle_does()

@@ -1,5 +1,5 @@
 //! The two diagrams of a search, and what is asked of them in its rounds.
-ghost use Rattle.std.specs.Prelude.{◌≡◌, IfOk, IfSome};
+ghost use Rattle.std.specs.Prelude.{◌≡◌, [], ◌∷◌, IfOk, IfSome};
 ghost use Rattle.number_search.specs.Told.{ArePlansOf, told_by_linking, told_by_blocks};
 ghost use Rattle.pair_verdict.specs.Separates.{first_separating, IsSeparation};
 ghost use Rattle.seek_core.specs.Found.{IsEqualBy};
@@ -7,15 +7,16 @@ ghost use Rattle.seek_core.specs.Sizes.{blocks_of_size};
 
 use crate::bounds::{Bounds, Resources};
 use crate::separating::first_separation;
-use crate::sizes::tell_by_size;
+use crate::sizes::is_of_size;
 use grid_canon::tidy;
 use grid_core::Grid;
 use meeting_walks::{Watch, find_joining_by};
 use memory_core::{Items, OutOfMemory};
-use number_search::{SeedPair, tell_apart_by_linking};
+use number_search::{SeedPair, tell_apart_by_blocks, tell_apart_by_linking};
 use number_text::{Block, Evidence};
 use std::alloc::Global;
 use std::marker::Model;
+use std::slice;
 use std::thread::Threads;
 use verdict_core::{Listed, Verdict};
 
@@ -51,14 +52,14 @@ impl<'a> Pair<'a> {
         }
     }
 
-    /// The evidence that the linking numbers differ, or None where they agree. Want of memory is the only error, here and below.
+    /// The evidence that the linking numbers differ, or None where they agree. Here and below the only error is that memory ran out.
     pub(crate) fn told_by_linking(&self, alloc: Global) -> Result<Option<Evidence>, OutOfMemory>
         ensures { IfOk result (λ o. o ≡ told_by_linking self.now.first self.now.second) }
     {
         tell_apart_by_linking(alloc, self.first, self.second)
     }
 
-    /// The evidence by the first that tells the diagrams apart of the larger ones of the blocks, or of the others. None where none of these does.
+    /// The evidence by the first that distinguishes the diagrams, of the larger ones of the blocks, or of the others. None where none of these does.
     pub(crate) fn told_by_blocks(
         &self,
         alloc: Global,
@@ -67,7 +68,29 @@ impl<'a> Pair<'a> {
     ) -> Result<Option<Evidence>, OutOfMemory>
         ensures { IfOk result (λ o. o ≡ told_by_blocks self.now.first self.now.second self.now.seeds (blocks_of_size larger blocks.now)) }
     {
-        tell_by_size(alloc, self.first, self.second, self.seeds, blocks, larger)
+        for block in blocks {
+            let evidence = self.told_by_one(alloc, block, larger)?;
+            if evidence.is_some() {
+                return Ok(evidence);
+            }
+        }
+        Ok(None)
+    }
+
+    /// The evidence by one block, if it is a larger one, or isn't, as asked, and distinguishes the diagrams; else None.
+    fn told_by_one(
+        &self,
+        alloc: Global,
+        block: &Block,
+        larger: bool,
+    ) -> Result<Option<Evidence>, OutOfMemory>
+        ensures { IfOk result (λ o. o ≡ told_by_blocks self.now.first self.now.second self.now.seeds (blocks_of_size larger (block.now ∷ []))) }
+    {
+        if is_of_size(block, larger) {
+            let one = slice::from_ref(block);
+            return tell_apart_by_blocks(alloc, self.first, self.second, self.seeds, one);
+        }
+        Ok(None)
     }
 
     /// The verdict `different` by the first of the quandles that separates the diagrams, or None where none does.

@@ -8,7 +8,7 @@ use memory_core::{Items, OutOfMemory};
 use std::alloc::Global;
 use text_lines::Lines;
 
-/// The parts one behind the other, each from the beginning of a line on. Want of memory is the only error.
+/// The parts one after the other, each from the beginning of a line on. It fails only if memory runs out.
 pub fn join_parts(alloc: Global, parts: &[Items<u8>]) -> Result<Vec<u8>, OutOfMemory>
     ensures { IfOk result (λ whole. whole.items ≡ joined parts.now) }
 {
@@ -19,8 +19,8 @@ pub fn join_parts(alloc: Global, parts: &[Items<u8>]) -> Result<Vec<u8>, OutOfMe
     Ok(whole)
 }
 
-/// Where a line of the parts, one behind the other, stands: which part it is in, counted from 0, and its number there; lines are counted from 1.
-/// One behind the last line stands behind those of the last part. None comes where there are no parts. Takes no memory.
+/// Where a line of the parts, one after the other, is: which part it is in, counted from 0, and its number there; lines are counted from 1.
+/// A line after the last one is after those of the last part. None comes if there are no parts. Takes no memory.
 pub fn place(parts: &[Items<u8>], line: usize) -> Option<(usize, usize)>
     ensures some { IfSome result (λ at. StandsIn parts.now line at.0 at.1) }
     ensures none { IfNone result (parts.now ≡ []) }
@@ -44,7 +44,7 @@ fn line_count(bytes: &[u8]) -> usize
     Lines::new(bytes).ending() - 1
 }
 
-/// Appends a part, behind a line feed where the last line lacks one.
+/// Appends a part, after a line feed where the last line lacks one.
 fn put_behind(whole: &mut Vec<u8>, part: &[u8]) -> Result<(), OutOfMemory>
     ensures { OnOk result (whole.new.items ≡ put_behind whole.old.items part.now) }
 {

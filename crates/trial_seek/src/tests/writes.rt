@@ -2,7 +2,7 @@
 use knot_ports::{MemSink, Status};
 use meeting_walks::Unwatched;
 use memory_core::Items;
-use seek_core::{Blocks, Bounds, run};
+use seek_core::{Blocks, Bounds, Resources, run};
 use std::alloc::Global;
 use std::test::Fail;
 use std::thread::Threads;
@@ -24,7 +24,12 @@ const TREFOIL_UNKNOT: &[u8] = b"x 4 3 2 1 0\no 2 1 0 4 3\nx 0 1\no 1 0\n";
 fn status_on<R: Threads + Sync>(rt: &R, alloc: Global, sink: &mut MemSink) -> Result<Status, Fail> {
     let parts = [Items::from_vec(Vec::from_slice(alloc, TREFOIL_UNKNOT)?)];
     let blocks = Blocks::new(alloc);
-    Ok(run(rt, alloc, &parts, &blocks, STILL, sink, &mut Unwatched).status())
+    let resources = Resources {
+        rt,
+        alloc,
+        bounds: STILL,
+    };
+    Ok(run(&resources, &parts, &blocks, sink, &mut Unwatched).status())
 }
 
 #[test]

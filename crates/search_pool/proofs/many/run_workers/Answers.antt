@@ -11,14 +11,14 @@ new-requires-clause-of_problem g c = begun_problem c.args.problem c.in_ok-book.b
 
 pub close-requires-clause-all_made_shares : goal.close-requires-clause-all_made_shares
 close-requires-clause-all_made_shares g c =
-    c.in_ok-shared.seats.ok.0 ∙ as_many_seats c.args.workers c.in_ok-shared.seats.items c.in_ok-shared.ensures.seats ∙ sym c.requires.made_blank.2
+    c.in_ok-shared.seats.ok.0 ∙ as_many_seats c.args.blanks.workers c.in_ok-shared.seats.items c.in_ok-shared.ensures.seats ∙ sym c.requires.made_blank.2
 
 pub close-requires-clause-all_end_shares : goal.close-requires-clause-all_end_shares
 close-requires-clause-all_end_shares g c =
-    c.in_ok-shared.seats.ok.0 ∙ as_many_seats c.args.workers c.in_ok-shared.seats.items c.in_ok-shared.ensures.seats ∙ sym c.requires.end_blank.2
+    c.in_ok-shared.seats.ok.0 ∙ as_many_seats c.args.blanks.workers c.in_ok-shared.seats.items c.in_ok-shared.ensures.seats ∙ sym c.requires.end_blank.2
 
 pub returns-clause-over : goal.returns-clause-over
 returns-clause-over g c =
-    let many = as_many_seats c.args.workers c.in_ok-shared.seats.items c.in_ok-shared.ensures.seats in
+    let many = as_many_seats c.args.blanks.workers c.in_ok-shared.seats.items c.in_ok-shared.ensures.seats in
     let same = written_over c.in_ok-shared.seats.len c.work_all.new.seats c.in_ok-shared.seats.items (search rules) (search rules) in
     c.close.ensures.over (rw same (one_saw_end c.work_all.new.seats (search (rules, many)) c.work_all.ensures))

@@ -1,21 +1,9 @@
-use Rattle.std.proofs.Common.{rules, ◌≡◌, ◌∙◌, ap, arith}
-use Rattle.search_pool.specs.Seats.{fresh_seats}
-use Rattle.search_pool.proofs.SeatLists.{as_many_seats, fresh_more, written_over}
+use Rattle.std.proofs.Common.{rules, ◌≡◌, ◌∙◌}
+use Rattle.search_pool.proofs.SeatLists.{written_over}
 use Rattle.search_pool.proofs.shared.SharedBook.new.Goals as goal
-
-pub push_reserved-requires : goal.push_reserved-requires
-push_reserved-requires g l =
-    let many = as_many_seats l.loop-worker.worker l.loop-worker.seats.items (search rules) in
-    (search (rules, many))
-
-pub loop-worker-preserved : goal.loop-worker-preserved
-loop-worker-preserved g l =
-    let more = fresh_more l.loop-worker.worker l.loop-worker.seats.items (search rules) in
-    (search (rules, more))
 
 pub returns : goal.returns
 returns g c =
-    let all : c.loop-worker.worker ≡ c.args.workers = omega (arith, c.loop-worker.invariant.0) in
-    let same = written_over c.loop-worker.seats.len c.reserve_others.new.seats c.loop-worker.seats.items (search rules) (search rules) in
-    let kept : c.reserve_others.new.seats ≡ c.loop-worker.seats.items = search rules in
-    record { seats = same ∙ kept ∙ c.loop-worker.invariant.5 ∙ ap fresh_seats all }
+    let same = written_over c.in_ok-seats.seats.len c.reserve_others.new.seats c.in_ok-seats.seats.items (search rules) (search rules) in
+    let kept : c.reserve_others.new.seats ≡ c.in_ok-seats.seats.items = search rules in
+    record { seats = same ∙ kept ∙ c.in_ok-seats.ensures.seats }

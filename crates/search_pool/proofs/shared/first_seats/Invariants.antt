@@ -1,6 +1,6 @@
 use Rattle.std.proofs.Common.{◌≡◌, ◌+◌, ◌≤◌, vec_capacity}
 use Rattle.search_pool.specs.Seats.{fresh_seats}
-use Rattle.search_pool.proofs.shared.SharedBook.new.Given as goal
+use Rattle.search_pool.proofs.shared.first_seats.Given as goal
 
 abbrev pub invariant-loop-worker : goal.invariant-loop-worker
 invariant-loop-worker g l =
@@ -10,5 +10,3 @@ invariant-loop-worker g l =
     × (l.end_share.amount ≡ 0)
     × (l.workers ≤ vec_capacity l.seats)
     × (l.seats.items ≡ fresh_seats l.worker)
-    × (l.made_ledger.total ≡ 0)
-    × (l.end_ledger.total ≡ 0)
