@@ -1,5 +1,6 @@
 -- The closure of a braid as a grid diagram, from its lowest row to its highest (braids: Artin 1947; grids: Cromwell 1995).
--- The foot of position j begins in row j - 1, and letter t, counted from 0, has row m + t. The strand of position j then turns at the top row n - j and comes back down to row j - 1.
+-- The foot of position j begins in row j - 1, and letter t, counted from 0, has row m + t. The strand of position j then turns at the top row n - j
+-- and comes back down to row j - 1.
 use Rattle.std.specs.Prelude.{ℕ, zero, suc, ◌+◌, ◌-◌, ◌*◌, ℤ, pos, negsuc, List, [], ◌∷◌, ◌++◌, map, length, slice_index}
 use Rattle.std.specs.List.{range_with_len}
 use Rattle.grid_core.specs.Diagram.{Diagram}

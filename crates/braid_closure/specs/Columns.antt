@@ -1,5 +1,6 @@
 -- The columns of a grid in the making, from left to right. A column begins with an X, and is open until it ends with an O.
-use Rattle.std.specs.Prelude.{◌≡◌, ◌<◌, ℕ, ◌+◌, ◌-◌, ◌==◌, Bool, true, length, take, slice_index_or, List, [], ◌∷◌, ◌++◌, map, filter, Some, None, is_none, unwrap_or, if◌then◌else◌}
+use Rattle.std.specs.Prelude.{◌≡◌, ◌<◌, ℕ, ◌+◌, ◌-◌, ◌==◌, Bool, true, length, take, slice_index_or, List, [], ◌∷◌, ◌++◌, map, filter, Some, None, is_none}
+use Rattle.std.specs.Prelude.{unwrap_or, if◌then◌else◌}
 use Rattle.grid_core.specs.Diagram.{Diagram}
 use Rattle.braid_closure.specs.declared.columns.Column.{Column}
 

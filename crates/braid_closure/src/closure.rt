@@ -22,8 +22,10 @@ pub struct Closure {
 
 /// The closure of a braid of m strands and l letters as a grid of size l + 2m, built from its lowest row to its highest.
 ///
-/// The foot of position j begins in row j-1. Letter t, counted from 0, has row m+t: there one strand's column ends, and goes on in a new column on the far side of the strand that it passes under.
-/// The column of position j ends in the top row of j, row l+2m-j, and one of m closing columns, which stand right of all others, that of position m first, leads from there to row j-1.
+/// The foot of position j begins in row j-1. Letter t, counted from 0, has row m+t: there one strand's column ends, and goes on in a new column on
+/// the far side of the strand that it passes under.
+/// The column of position j ends in the top row of j, row l+2m-j. From there a closing column leads to row j-1. The m closing columns lie right of
+/// all others, that of position m first.
 /// Takes no memory.
 pub fn close(braid: &Braid) -> Closure
     ensures grid { result.grid ≡ closure braid.now }

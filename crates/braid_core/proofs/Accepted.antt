@@ -1,5 +1,6 @@
 -- What has no fault is a braid, and a braid has none.
-use Rattle.std.proofs.Common.{◌≡◌, ◌≤◌, ◌+◌, ◌*◌, ◌∙◌, ◌&&◌, ℕ, ℤ, List, Bool, false, not, cond, Option, Some, None, length, get_or, nat_lt, nat_le, unsigned_abs, pos, arith, ap, All}
+use Rattle.std.proofs.Common.{◌≡◌, ◌≤◌, ◌+◌, ◌*◌, ◌∙◌, ◌&&◌, ℕ, ℤ, List, Bool, false, not, cond, Option, Some, None, length, get_or, nat_lt, nat_le}
+use Rattle.std.proofs.Common.{unsigned_abs, pos, arith, ap, All}
 use Rattle.std.specs.List.{position, position_or_len}
 use Rattle.std.proofs.lemmas.Bool.{and_parts, and_from, leb-true, le-leb, ltb-true, ltb-false, lt-ltb, le-ltb, not_from_true, not-false}
 use Rattle.std.proofs.lemmas.List.Sums.{fails_before_first, position_or_len_is}

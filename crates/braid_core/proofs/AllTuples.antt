@@ -1,5 +1,6 @@
 -- The list of all tuples, by their first colours.
-use Rattle.std.proofs.Common.{◌≡◌, ◌+◌, ◌-◌, ◌++◌, ◌∷◌, ◌∙◌, [], ℕ, suc, List, Bool, length, map, filter, take, arith, sym, refl, ap, append_assoc, length-append, zero-add}
+use Rattle.std.proofs.Common.{◌≡◌, ◌+◌, ◌-◌, ◌++◌, ◌∷◌, ◌∙◌, [], ℕ, suc, List, Bool, length, map, filter, take, arith, sym, refl, ap, append_assoc}
+use Rattle.std.proofs.Common.{length-append, zero-add}
 use Rattle.std.specs.List.{range_with_len, flat_map}
 use Rattle.std.proofs.lemmas.Grind.{flat_map-append}
 use Rattle.std.proofs.lemmas.List.Elements.{filter-append}

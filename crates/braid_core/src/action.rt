@@ -9,7 +9,7 @@ use quandle_core::Quandle;
 
 /// Changes the colours as the braid acts on them, by its letters from first to last.
 ///
-/// There is to be a colour below the order for each strand, position 1 first. Takes no memory.
+/// There must be a colour below the order for each strand, position 1 first. Takes no memory.
 pub fn act(braid: &Braid, quandle: &Quandle, colours: &mut [u8])
     requires { IsTuple quandle.now braid.now.strands colours.old }
     ensures action { colours.new ≡ action quandle.now braid.now.letters colours.old }
@@ -21,7 +21,7 @@ pub fn act(braid: &Braid, quandle: &Quandle, colours: &mut [u8])
 
 /// Changes the colours as these letters act on them, from first to last. Any number of letters and of strands will do.
 ///
-/// There is to be a colour below the order for each strand, position 1 first, and each letter is to be one of so many strands. Takes no memory.
+/// There must be a colour below the order for each strand, position 1 first, and each letter must be one for that many strands. Takes no memory.
 pub fn act_letters(letters: &[i8], quandle: &Quandle, colours: &mut [u8])
     requires letters { All (IsLetter (length colours.old)) letters.now }
     requires colours { All (λ y. y < quandle.now.order) colours.old }
@@ -36,7 +36,7 @@ pub fn act_letters(letters: &[i8], quandle: &Quandle, colours: &mut [u8])
 /// Changes the colours as one letter acts on them.
 ///
 /// Letter `+k` takes `(x_k, x_{k+1})` to `(x_{k+1} ▷ x_k, x_k)`, and letter `-k` takes it to `(x_{k+1}, x_k ◁ x_{k+1})`; all other colours stay.
-/// There is to be a colour below the order for each strand, position 1 first, and k is to be from 1 to one less than the number of strands. Takes no memory.
+/// There must be a colour below the order for each strand, position 1 first, and k must be from 1 to one less than the number of strands. Takes no memory.
 pub fn act_letter(letter: i8, quandle: &Quandle, colours: &mut [u8])
     requires letter { IsLetter (length colours.old) letter }
     requires colours { All (λ y. y < quandle.now.order) colours.old }

@@ -18,7 +18,7 @@ pub const INLINE_LETTERS: usize = 16;
 
 /// A braid as a word in the generators of the braid group (Artin 1947), which contracts see as its number of strands and its letters.
 ///
-/// The strands run upward at positions 1 to m from the left, with m from 1 to `MAX_STRANDS`, and the letters stand from the lowest crossing to the highest.
+/// The strands run upward at positions 1 to m from the left, with m from 1 to `MAX_STRANDS`, and the letters go from the lowest crossing to the highest.
 /// Letter `+k`, with k from 1 to m-1, is the positive crossing in which strand k+1 passes left under strand k; letter `-k` undoes it.
 /// Letters and twice the strands are at most `MAX_SIZE`, so that the closure is a grid.
 #[derive(Drop)]

@@ -1,5 +1,6 @@
 //! Braids as words in Artin's generators, their action on tuples of quandle colours, and the fixed points of that action.
-//! A word is accepted exactly where it is a braid whose closure has room, the action is the letters' from first to last, and the list of fixed points is complete and in order.
+//! A word is accepted exactly where it is a braid whose closure has room, the action is the letters' from first to last, and the list of fixed points
+//! is complete and in order.
 #![tactic(auto)]
 
 mod action;

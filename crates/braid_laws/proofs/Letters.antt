@@ -1,5 +1,6 @@
 -- The action of a letter: it keeps tuples, and its negative undoes it.
-use Rattle.std.proofs.Common.{◌≡◌, ◌≢◌, ◌<◌, ◌≤◌, ◌+◌, ◌-◌, ◌∷◌, ◌∙◌, [], ℕ, zero, suc, ℤ, pos, negsuc, List, All, length, get_or, set, arith, sym, refl, ap, ap₂, neg_ℤ, inl, inr, add-one}
+use Rattle.std.proofs.Common.{◌≡◌, ◌≢◌, ◌<◌, ◌≤◌, ◌+◌, ◌-◌, ◌∷◌, ◌∙◌, [], ℕ, zero, suc, ℤ, pos, negsuc, List, All, length, get_or, set, arith, sym, refl, ap}
+use Rattle.std.proofs.Common.{ap₂, neg_ℤ, inl, inr, add-one}
 use Rattle.std.proofs.lemmas.Bool.{cases_eq}
 use Rattle.std.proofs.lemmas.List.{ext_get_or, get_or-set_same, get_or-set_other, length-set}
 use Rattle.std.proofs.lemmas.List.Elements.{All-set, All-get_or, All-head, All-tail}

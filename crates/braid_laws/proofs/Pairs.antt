@@ -1,5 +1,6 @@
 -- A letter on the pair of colours in the midst of a tuple.
-use Rattle.std.proofs.Common.{◌≡◌, ◌<◌, ◌≤◌, ◌+◌, ◌-◌, ◌∷◌, ◌++◌, ◌∙◌, [], ℕ, ℤ, pos, negsuc, List, length, take, drop, arith, sym, ap, ap₂, append_assoc, length-append, get_or, set, unsigned_abs}
+use Rattle.std.proofs.Common.{◌≡◌, ◌<◌, ◌≤◌, ◌+◌, ◌-◌, ◌∷◌, ◌++◌, ◌∙◌, [], ℕ, ℤ, pos, negsuc, List, length, take, drop, arith, sym, ap, ap₂, append_assoc}
+use Rattle.std.proofs.Common.{length-append, get_or, set, unsigned_abs}
 use Rattle.std.proofs.lemmas.List.{get_or_at, set_at, drop_more, take-append-drop, length-take-le}
 use Rattle.quandle_core.specs.Quandle.{Table, over, back}
 use Rattle.braid_core.specs.Action.{colour_at, with_pair, positive, negative, letter_action}

@@ -1,5 +1,6 @@
 -- The first reason why a step is not legal on a braid word of m strands and l letters.
-use Rattle.std.specs.Prelude.{◌+◌, ◌-◌, ◌*◌, ◌==◌, ◌&&◌, ◌||◌, ℤ, pos, negsuc, neg_ℤ, unsigned_abs, Bool, true, false, not, length, take, nat_lt, nat_le, if◌then◌else◌, Option, Some, None}
+use Rattle.std.specs.Prelude.{◌+◌, ◌-◌, ◌*◌, ◌==◌, ◌&&◌, ◌||◌, ℤ, pos, negsuc, neg_ℤ, unsigned_abs, Bool, true, false, not, length, take, nat_lt, nat_le}
+use Rattle.std.specs.Prelude.{if◌then◌else◌, Option, Some, None}
 use Rattle.std.specs.List.{list_all}
 use Rattle.std.specs.Ordering.{int_eq}
 use Rattle.grid_core.specs.declared.grid.TheConstants.{MAX_SIZE}
@@ -24,7 +25,8 @@ is_negative (negsuc k) = true
 -- three letters are a, b, a, where a and b have one sign and absolute values that differ by 1
 abbrev pub are_triple : ℤ → ℤ → ℤ → Bool
 are_triple a b c =
-    int_eq c a && (if is_negative a then is_negative b else not (is_negative b)) && ((unsigned_abs a + 1 == unsigned_abs b) || (unsigned_abs b + 1 == unsigned_abs a))
+    int_eq c a && (if is_negative a then is_negative b else not (is_negative b))
+    && ((unsigned_abs a + 1 == unsigned_abs b) || (unsigned_abs b + 1 == unsigned_abs a))
 
 -- m is 2 or more, the last letter is m-1 or its negative, and no other letter has this absolute value:
 -- of all letters the last alone crosses the last strand
@@ -40,7 +42,9 @@ fault_unless holds fault next = if holds then next else Some fault
 -- first that letters and places are there, then the condition on letters and strands, then the room
 abbrev pub first_step_fault : Word → BraidMove → Option BraidMoveFault
 first_step_fault w (Far p) = fault_unless (nat_lt (p + 1) (length w.letters)) Range (fault_unless (are_far (letter_at w p) (letter_at w (p + 1))) Shape None)
-first_step_fault w (Triple p) = fault_unless (nat_lt (p + 2) (length w.letters)) Range (fault_unless (are_triple (letter_at w p) (letter_at w (p + 1)) (letter_at w (p + 2))) Shape None)
+first_step_fault w (Triple p) =
+    fault_unless (nat_lt (p + 2) (length w.letters)) Range
+    (fault_unless (are_triple (letter_at w p) (letter_at w (p + 1)) (letter_at w (p + 2))) Shape None)
 first_step_fault w (Cancel p) =
     fault_unless (nat_lt (p + 1) (length w.letters)) Range (fault_unless (int_eq (letter_at w (p + 1)) (neg_ℤ (letter_at w p))) Shape None)
 first_step_fault w (Insert place a) =

@@ -15,7 +15,8 @@ use quandle_core::Quandle;
 
 /// The fixed point of the new braid's action that a legal step makes of a fixed point of the old one's.
 ///
-/// A turn lets the letters that go to the end act on it, a new strand repeats the last colour, and a strand that goes takes its colour with it. Every other step keeps the tuple.
+/// A turn lets the letters that go to the end act on it, a new strand repeats the last colour, and a strand that goes takes its colour with it. Every
+/// other step keeps the tuple.
 /// The tuple has a colour below the order for each strand, position 1 first. Takes no memory.
 pub fn carry_tuple(
     braid: &Braid,

@@ -19,7 +19,7 @@ pub fn a_legal_step_leads_to_a_braid()
     ensures { (w : Word) → IsBraid w → (step : BraidMove) → first_step_fault w step ≡ None → IsBraid (moved w step) }
 {}
 
-/// No step's first fault is want of memory, so no ruling names it.
+/// `OutOfMemory` is never the first fault of a step, so no ruling names it.
 pub fn a_fault_is_never_want_of_memory()
     ensures step { (w : Word) (step : BraidMove) → first_step_fault w step ≡ Some OutOfMemory → ⊥ }
     ensures ruling { (v w : Word) (steps : List BraidMove) (place : ℕ) → ruling v w steps ≡ BraidRuling.Step place OutOfMemory → ⊥ }

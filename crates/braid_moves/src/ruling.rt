@@ -21,7 +21,7 @@ pub enum BraidRuling {
 
 /// Whether the steps, one after the other, lead from the first braid to the second, letter for letter.
 ///
-/// The answer is the first step that is not legal with its fault; else whether the last braid is the second one; or memory ran out.
+/// The answer is the first step that is not legal, with its fault; if all are legal, whether the last braid is the second one; or `OutOfMemory`.
 pub fn check_braids(
     alloc: Global,
     first: &Braid,
@@ -45,7 +45,7 @@ pub fn check_braids(
     }
 }
 
-/// The same braid again, or want of memory.
+/// The same braid again, or `OutOfMemory`.
 fn copy_of(alloc: Global, braid: &Braid) -> Result<Braid, OutOfMemory>
     ensures { IfOk result (λ b. b ≡ braid.now) }
 {

@@ -11,7 +11,8 @@ pub enum BraidMove {
     Triple(u8),
     /// Letters p and p + 1 are a letter and its negative, and both go.
     Cancel(u8),
-    /// A letter of the braid's strands, from 1 to m - 1 or its negative, and then its negative, stand before the old letter `place`, or at the end where `place` is l.
+    /// This letter, from 1 to m - 1 or the negative of such a number, and then its negative are put before the old letter `place`, or at the end
+    /// if `place` is l.
     Insert { place: u8, letter: i8 },
     /// The first k letters, with k from 1 to l - 1, go to the end in order: a conjugation.
     Turn(u8),
@@ -24,11 +25,13 @@ pub enum BraidMove {
 /// Why a step is not legal on a braid of m strands and l letters: the first of these that holds.
 #[derive(Clone, Copy, Debug, PartialEq, Eq)]
 pub enum BraidMoveFault {
-    /// A letter p, p + 1 or p + 2 that is not there, a place after the end, an inserted letter that is 0 or whose absolute value is not below m, or a turn by 0 or by l or more.
+    /// A letter p, p + 1 or p + 2 that is not there, a place after the end, an inserted letter that is 0 or whose absolute value is not below m, or a
+    /// turn by 0 or by l or more.
     Range,
-    /// The letters or the strands are not as `Far`, `Triple`, `Cancel` or `Shrink` want them.
+    /// The letters or the strands are not as `Far`, `Triple`, `Cancel` or `Shrink` requires.
     Shape,
-    /// After `Insert` or `Grow` the braid would have more than `MAX_STRANDS` strands, or letters and twice the strands over `MAX_SIZE`, so that its closure has no room.
+    /// After `Insert` or `Grow` the braid would have more than `MAX_STRANDS` strands, or letters and twice the strands over `MAX_SIZE`, so that its
+    /// closure has no room.
     Full,
     /// Memory ran out.
     OutOfMemory,

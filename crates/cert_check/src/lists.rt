@@ -36,7 +36,7 @@ pub(crate) fn check_lists(
     }
 }
 
-/// Why the quandle does not tell the grids apart by these lists: the first cause.
+/// Why the quandle does not distinguish the grids by these lists: the first cause.
 fn cause_of_lists(
     alloc: Global,
     first: &Grid,

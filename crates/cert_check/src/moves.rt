@@ -9,8 +9,8 @@ use grid_moves::{Move, apply_all};
 use verdict_core::Verdict;
 
 /// Whether the moves join the first grid to the second: accepted exactly where they do.
-/// Else rejected, for the first move that is not legal where it is made, or, where all are legal,
-/// for the other diagram that they lead to. It takes no memory, and one pass over the moves.
+/// Otherwise rejected, for the first move that is not legal where it is made or, if all are legal,
+/// because they lead to another diagram. It takes no memory, and one pass over the moves.
 pub fn check_moves(first: &Grid, second: &Grid, moves: &[Move]) -> Ruling
     ensures ruling { RulesOnVerdict first.now second.now (Verdict.Equal moves.now) result }
     ensures accepted { (result ≡ Ruling.Accepted) ↔ Joins first.now moves.now second.now }

@@ -7,7 +7,7 @@ use grid_moves::MoveFault;
 pub enum Ruling {
     /// The evidence holds.
     Accepted,
-    /// It does not, and this is the first cause.
+    /// The evidence does not hold, and this is the first cause.
     Rejected(Why),
 }
 

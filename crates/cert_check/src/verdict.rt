@@ -17,7 +17,7 @@ use verdict_core::{ProblemText, Verdict};
 /// be one of the problem's, fits both diagrams, the lists are their complete lists of colourings, and these have different
 /// lengths; so the two are not equivalent. An unknown verdict has no evidence.
 ///
-/// Memory is wanted for lists of colourings alone, for the complete list of one diagram at a time.
+/// Memory is needed only for lists of colourings, for the complete list of one diagram at a time.
 pub fn check(alloc: Global, problem: &ProblemText, verdict: &Verdict) -> Result<Ruling, OutOfMemory>
     ensures ruling { IfOk result (λ r. RulesOnVerdict (grid_of problem.now.first) (grid_of problem.now.second) verdict.now r) }
     ensures accepted { IfOk result (λ r. (r ≡ Ruling.Accepted) ↔ VerdictHolds (grid_of problem.now.first) (grid_of problem.now.second) verdict.now) }

@@ -9,7 +9,7 @@ use Rattle.verdict_core.specs.declared.problem.ProblemText.{ProblemText}
 use Rattle.quandle_core.specs.Names.{NamedQuandle}
 use Rattle.quandle_core.proofs.Named.{named_within, named_wider}
 use Rattle.text_items.specs.Reading.{◌>>=◌, next_line, next_token, line_end, word, text_end}
-use Rattle.text_items.specs.Quandles.{written_at}
+use Rattle.text_items.specs.Quandles.{written_at, large_quandle_item}
 use Rattle.knot_text.specs.Printed.{HasQuandleTextWithin}
 use Rattle.knot_text.specs.WrittenThere.{cocycle_lines, HasCocycleText}
 use Rattle.verdict_text.specs.Problems.{problem_item, check_of}
@@ -25,7 +25,7 @@ use Rattle.evidence_core.specs.declared.blocks.LargeWeighing.TheVariants.{Strand
 use Rattle.evidence_core.specs.declared.blocks.Block.{Block}
 use Rattle.evidence_core.specs.declared.evidence.Evidence.{Evidence}
 use Rattle.evidence_core.specs.declared.evidence.Evidence.TheVariants.{Numbers, Linking}
-use Rattle.number_text.specs.Blocks.{block_quandle, block_item, surplus_block, blocks}
+use Rattle.number_text.specs.Blocks.{block_item, surplus_block, blocks}
 use Rattle.number_text.specs.BlockCocycles.{cocycle_or_none}
 use Rattle.number_text.specs.Evidence.{count_of, seeded_numbers_item, numbers_evidence, linked_item, linking_evidence, evidence_at, head_at, third_item}
 use Rattle.number_text.specs.declared.said.Said.{Said}
@@ -46,8 +46,8 @@ perhaps_says quandle text is = says_if (begins (codes "weight") text)
 block_named : (most : ℕ) (q : NamedQuandle) → most ≤ MAX_LARGE_ORDER → HasQuandleTextWithin most q → HasQuandleTextWithin MAX_LARGE_ORDER q
 block_named most q few has = record { names = named_wider most MAX_LARGE_ORDER q.name q.table few has.names; factor = has.factor }
 
-quandle_says : (most : ℕ) (text : Text) → most ≤ MAX_LARGE_ORDER → Says (block_quandle most text) (λ x. HasQuandleTextWithin MAX_LARGE_ORDER x.0)
-unfolding block_quandle
+quandle_says : (most : ℕ) (text : Text) → most ≤ MAX_LARGE_ORDER → Says (large_quandle_item most text) (λ x. HasQuandleTextWithin MAX_LARGE_ORDER x.0)
+unfolding large_quandle_item
 quandle_says most text few = says_bind (λ x. Unit {0}) (anything (next_line text)) (λ line there.
     says_bind (λ x. Unit {0}) (anything (word (codes "quandle") line.0)) (λ rest named.
     says_more (λ q is. block_named most q.0 few is.text) (quandle_at_says most (omega (arith, few)) rest line.1)))

@@ -19,8 +19,8 @@ ghost use Rattle.certificate_check.specs.Decision.{IsFindingOf, IsByWrittenBlock
 
 use verdict_laws::decisions::a_verdict_that_holds_is_a_decision;
 
-/// What holds of the diagrams of a problem and has a text, whoever found it, is as it is printed a decision on the input: it is true, and
-/// accepted after the input, as is a decision by a verdict.
+/// If what is said of the diagrams of a problem holds and has a text, its printed text is a decision on the input, whoever found it: it is true, and
+/// accepted after the input. So is a decision by a verdict.
 pub fn what_holds_is_a_decision()
     ensures decision { (bytes : List ℕ) (problem : ProblemText) (x : Said) → problem_of bytes ≡ Ok problem → IsFindingOf problem x
         → IsDecision bytes (said_text x) }
@@ -43,7 +43,7 @@ pub fn a_block_that_was_read_has_a_text()
         → AllByRecursion HasBlockText list }
 {}
 
-/// Where a text is a decision on an input, or bytes are read in which something is said that is accepted, it is true: no list of moves joins
+/// A text that is a decision on an input is true, and so is what is said in bytes that are read, if it is accepted: no list of moves joins
 /// diagrams that are distinguished.
 pub fn what_is_accepted_is_true()
     ensures written { (bytes text : List ℕ) (problem : ProblemText) (decision : IsDecision bytes text) → problem_of bytes ≡ Ok problem

@@ -44,7 +44,7 @@ pub fn evidence_behind_its_problem_is_read()
         → HasEvidenceText evidence → said_of (bytes ++ third_text evidence) ≡ Ok (problem, said.Evidence evidence) }
 {}
 
-/// Where what is said of two diagrams is not read, the fault is that of the first bad line, or of the end where no line is bad.
+/// If what is said of two diagrams can't be read, the fault is that of the first bad line, or, if no line is bad, of the end.
 pub fn a_fault_of_what_is_said_is_that_of_the_first_bad_line()
     ensures { FailsFirst said_in }
 {}
@@ -65,12 +65,12 @@ pub fn a_shadow_cocycle_is_read_whatever_stands_behind()
     ensures { (quandle : Table) → IsStable (shadow_item quandle) }
 {}
 
-/// Where two diagrams, a quandle and a cocycle are not read, the fault is that of the first bad line, or of the end where no line is bad.
+/// If two diagrams, a quandle and a cocycle can't be read, the fault is that of the first bad line, or, if no line is bad, of the end.
 pub fn a_fault_of_weighed_diagrams_is_that_of_the_first_bad_line()
     ensures { FailsFirst weighed_in }
 {}
 
-/// Whatever is read as two diagrams, a quandle and a 2-cocycle, where no shadow cocycles are known, is read as these.
+/// Whatever a reader without shadow cocycles reads as two diagrams, a quandle and a 2-cocycle is still read as these.
 pub fn what_was_weighed_before_is_read_so()
     ensures { (bytes : List ℕ) (w : WeightText) → weight_of bytes ≡ Ok w
         → weighed_of bytes ≡ Ok (record { first = w.first; second = w.second; listed = w.listed; cocycle = Strands w.cocycle }) }

@@ -14,8 +14,8 @@ use number_text::Block;
 use std::alloc::{AllocError, Global};
 use text_lines::{push_counted, push_number};
 
-/// For each block the quandle, and the numbers of a grid by the block: `numbers` and the numbers of its colourings, or `wide` and
-/// how many seeds the plan of the grid has that was found, where it has too many choices of colours.
+/// For each block the quandle, and a line: `numbers` with the numbers of the grid's colourings by the block, or `wide` with the number
+/// of seeds of the plan that was found, if these have too many choices of colours.
 pub fn numbers_text(alloc: Global, grid: &Grid, blocks: &[Block]) -> Result<Vec<u8>, AllocError>
     ensures { IfOk result (λ v. IsNumbersText grid.now blocks.now v.items) }
 {

@@ -14,8 +14,8 @@ use std::alloc::Global;
 /// Reads the whole input from the source, rules on it, and writes the ruling to the sink.
 ///
 /// An input of more than `MAX_CERTIFICATE` bytes ends in `Limit`, one with a bad line in `Malformed` or `Limit` by its first bad line. Every
-/// other ends in `Done` where what it says of two diagrams or of a table was accepted, and is true, or in `Rejected` with the first cause. The whole
-/// answer is made before the first write, so `ReadFault` and `OutOfMemory` write nothing; `WriteFault` has written a front of what was due.
+/// other ends in `Done` if what it says of two diagrams or of a table was accepted, and is true, or in `Rejected` with the first cause. The whole
+/// answer is made before the first write, so `ReadFault` and `OutOfMemory` write nothing; with `WriteFault` a prefix of the answer was written.
 pub fn run<S: Source, K: Sink>(alloc: Global, source: &mut S, sink: &mut K) -> Status
     ensures ends { EndsCheck (source_change S.Source source.old source.new) (sink_change K.Sink sink.old sink.new) result }
     ensures reads { S.faults source.old ≤ S.faults source.new }

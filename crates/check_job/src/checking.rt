@@ -21,8 +21,8 @@ use std::alloc::{AllocError, Global};
 use table_check::{answer_table, begins_table};
 use verdict_core::{ProblemText, Verdict};
 
-/// The answer to the bytes of a certificate: of a table of knots where their first line is `certificate 4`, else of a problem, and of a verdict
-/// on it or evidence by numbers.
+/// The answer to the bytes of a certificate: of a table of knots if their first line is `certificate 4`, otherwise of a problem with a verdict
+/// on it or with evidence by numbers.
 pub fn answer(alloc: Global, bytes: &[u8]) -> Result<PlainReply, AllocError>
     ensures answer { IfOk result (λ reply. AnswersRead AnswersCheck (certificate_of bytes.now) reply) }
     ensures claim { IfOk result (λ reply. reply.status ≡ Status.Done → IsCertificate bytes.now) }

@@ -7,7 +7,7 @@ use knot_ports::{ReadEnd, Sink, Source, Status, give_all, read_all};
 use std::alloc::Global;
 
 /// The bytes that the source gives; None where there are more than `limit`. The error is the status of a call that can't read them:
-/// `ReadFault` where the source failed, `OutOfMemory` where there was no memory for the bytes. What came is then taken from the source.
+/// `ReadFault` where the source failed, `OutOfMemory` where there was no memory for the bytes. The bytes that came are then gone from the source.
 pub fn read_input<S: Source>(
     alloc: Global,
     source: &mut S,
@@ -25,7 +25,7 @@ pub fn read_input<S: Source>(
     }
 }
 
-/// Writes a text: its own status, or `WriteFault` where the sink failed and has a front of the text.
+/// Writes a text, and returns its own status, or `WriteFault` if the sink failed and has a prefix of the text.
 pub fn write_text<K: Sink>(sink: &mut K, text: &[u8], own: Status) -> Status
     ensures written { IsWritten (sink_change K.Sink sink.old sink.new) text.now own result }
     ensures count { K.faults sink.old ≤ K.faults sink.new }

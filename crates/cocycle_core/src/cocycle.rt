@@ -31,7 +31,7 @@ impl Model for Cocycle {
 impl Cocycle {
     /// The cocycle of a table in which `table[x * order + y]` is `φ(x, y)`.
     ///
-    /// Else the first law that the table breaks, with its lexicographically first case.
+    /// If the table breaks a law, the error is the first law that it breaks, with the lexicographically first case.
     pub fn new(quandle: &Quandle, modulus: u8, table: &[u8]) -> Result<Cocycle, CocycleFault>
         ensures fault { result_err result ≡ first_cocycle_fault (record { quandle = quandle.now; modulus = modulus; entries = table.now }) }
         ensures cocycle { IfOk result (λ c. c ≡ record { quandle = quandle.now; modulus = modulus; entries = table.now }) }
@@ -43,7 +43,7 @@ impl Cocycle {
         }
     }
 
-    /// The same cocycle again. Takes no memory.
+    /// A copy of the cocycle. Takes no memory.
     pub fn copy(&self) -> Self
         ensures { result ≡ self.now }
     {

@@ -30,7 +30,7 @@ impl Model for LargeCocycle {
 impl LargeCocycle {
     /// The cocycle of a table in which `table[x * order + y]` is `φ(x, y)`. Takes no memory.
     ///
-    /// Else the first law that the table breaks, with its lexicographically first case.
+    /// If the table breaks a law, the error is the first law that it breaks, with the lexicographically first case.
     pub fn new(
         quandle: LargeQuandle,
         modulus: u8,
@@ -51,7 +51,7 @@ impl LargeCocycle {
         }
     }
 
-    /// The same cocycle again. Want of memory is the only error.
+    /// A copy of the cocycle. It fails only if memory runs out.
     pub fn copy(&self, alloc: Global) -> Result<LargeCocycle, AllocFailed<u8>>
         ensures { IfOk result (λ c. c ≡ self.now) }
     {

@@ -12,7 +12,7 @@ pub fn mochizuki_is_a_shadow_cocycle()
     ensures whole { (p y z : ℕ) → is_prime p ≡ true → p ≤ MAX_ORDER → y < p → z < p → dividend p y z % p ≡ 0 }
 {}
 
-/// A quandle passes the test exactly where it is the dihedral one of its order.
+/// A quandle passes the test for dihedral ones exactly if it is the dihedral quandle of its order.
 pub fn a_dihedral_quandle_is_known()
     ensures { (t : Table) → IsQuandle t → (is_dihedral t ≡ true) ↔ (t ≡ dihedral t.order) }
 {}

@@ -1,6 +1,6 @@
 //! Cocycles of quandles: 2-cocycles, and shadow cocycles, by which strands and regions have weights that are the same on equivalent diagrams;
 //! Mochizuki's formula gives one of each dihedral quandle of prime order.
-//! A table that breaks no law is a cocycle, and the other way round; of any other one the first law that it breaks is found.
+//! A table is a cocycle exactly if it breaks no law; of any other table the first law that it breaks is found.
 #![tactic(auto)]
 
 mod cocycle;

@@ -30,7 +30,7 @@ impl Model for ShadowCocycle {
 impl ShadowCocycle {
     /// The cocycle of a table in which `table[(w * order + x) * order + y]` is `θ(w, x, y)`. It keeps the table, and takes no memory.
     ///
-    /// Else the first law that the table breaks, with its lexicographically first case.
+    /// If the table breaks a law, the error is the first law that it breaks, with the lexicographically first case.
     pub fn new(quandle: &Quandle, modulus: u8, table: Vec<u8>) -> Result<ShadowCocycle, ShadowFault>
         ensures fault { result_err result ≡ first_shadow_fault (record { quandle = quandle.now; modulus = modulus; entries = table.items }) }
         ensures cocycle { IfOk result (λ c. c ≡ record { quandle = quandle.now; modulus = modulus; entries = table.items }) }
@@ -67,7 +67,7 @@ impl ShadowCocycle {
     }
 }
 
-/// The cocycle of a table that obeys the laws, in which `table[(w * order + x) * order + y]` is `θ(w, x, y)`. It tries none, and takes no memory.
+/// The cocycle of a table that obeys the laws, in which `table[(w * order + x) * order + y]` is `θ(w, x, y)`. It doesn't check them, and takes no memory.
 pub fn of_table(quandle: &Quandle, modulus: u8, table: Vec<u8>) -> ShadowCocycle
     requires { IsShadowCocycle (record { quandle = quandle.now; modulus = modulus; entries = table.items }) }
     ensures { result ≡ record { quandle = quandle.now; modulus = modulus; entries = table.items } }

@@ -7,7 +7,7 @@ use std::marker::Model;
 
 /// The values of a 2-cocycle, with the operations of its quandle, which contracts see as a `Cochain`.
 ///
-/// So what only reads them is written once for quandles of each size.
+/// With it, code that only reads the values is written once, for quandles of every size.
 #[derive(Drop)]
 pub struct Values<'a> {
     quandle: Operations<'a>,

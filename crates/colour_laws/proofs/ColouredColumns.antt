@@ -1,6 +1,7 @@
 -- Colourings by columns: a diagram and a list of colours as one list of coloured columns, and what a move makes of it.
 -- The laws are proved of these; the files on walks, on steps and on carried colours lead from the definitions to them and back.
-use Rattle.std.specs.Prelude.{◌≡◌, ◌⊎◌, ◌==◌, ◌&&◌, ◌<◌, ◌++◌, not, map, take, drop, length, Bool, true, false, ℕ, zero, suc, List, [], ◌∷◌, nat_lt, if◌then◌else◌}
+use Rattle.std.specs.Prelude.{◌≡◌, ◌⊎◌, ◌==◌, ◌&&◌, ◌<◌, ◌++◌, not, map, take, drop, length, Bool, true, false, ℕ, zero, suc, List, [], ◌∷◌, nat_lt}
+use Rattle.std.specs.Prelude.{if◌then◌else◌}
 use Rattle.std.specs.List.{All, position_or_len}
 use Rattle.grid_core.specs.Diagram.{Diagram}
 use Rattle.quandle_core.specs.Quandle.{Table, over, back}

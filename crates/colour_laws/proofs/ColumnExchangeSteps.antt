@@ -22,7 +22,8 @@ use Rattle.colour_rows.specs.Colouring.{IsColouring}
 use Rattle.quandle_core.specs.Bijection.{IsBijection}
 use Rattle.colour_laws.specs.Carried.{carried, colours_exchanged, is_nested_in, gone_left, gone_right}
 use Rattle.colour_laws.proofs.ColumnLists.{Column}
-use Rattle.colour_laws.proofs.ColouredColumns.{IsColouringByColumns, act, columns, ys_of, IsTradableAt, neighbours_traded, columns_traded, pair_traded, traded_colours}
+use Rattle.colour_laws.proofs.ColouredColumns.{IsColouringByColumns, act, columns, ys_of, IsTradableAt, neighbours_traded, columns_traded, pair_traded}
+use Rattle.colour_laws.proofs.ColouredColumns.{traded_colours}
 use Rattle.colour_laws.proofs.Exchanges.{pair_outer, pair_inner, pair_disjoint}
 use Rattle.colour_laws.proofs.Exchanges as lists
 use Rattle.colour_laws.proofs.Marked.{ys_of_columns}

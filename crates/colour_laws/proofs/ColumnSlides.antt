@@ -8,7 +8,8 @@ use Rattle.std.proofs.lemmas.List.Elements.{All-cons}
 use Rattle.grid_core.specs.Diagram.{Diagram, IsGrid}
 use Rattle.colour_laws.proofs.ColumnLists.{Acts, Column, ends, crossed, crosses, xs_in, os_in, IsColoured}
 use Rattle.quandle_core.specs.Quandle.{Table, IsQuandle}
-use Rattle.colour_laws.proofs.ColouredColumns.{act, columns, xs_of, os_of, ys_of, IsColouringByColumns, AreInverse, IsMarked, neighbours_traded, IsSharing, bare}
+use Rattle.colour_laws.proofs.ColouredColumns.{act, columns, xs_of, os_of, ys_of, IsColouringByColumns, AreInverse, IsMarked, neighbours_traded, IsSharing}
+use Rattle.colour_laws.proofs.ColouredColumns.{bare}
 use Rattle.colour_laws.proofs.Actions.{crossed_carries, crossed_fixed}
 use Rattle.colour_laws.proofs.Rows.{on_at, row_at, row_end, row_apart, on_end, on_apart, row_walk, ends_cross, ends_ring, ends_apart}
 use Rattle.colour_laws.proofs.Level.{xs_here, xs_not_here, os_here, os_not_here}

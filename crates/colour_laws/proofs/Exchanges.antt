@@ -9,7 +9,8 @@ use Rattle.std.proofs.lemmas.Bool.{cond-true, cond-false, lt-ltb, le-ltb, and_fr
 use Rattle.grid_core.specs.Diagram.{Diagram, IsGrid}
 use Rattle.colour_laws.proofs.ColumnLists.{Acts, Column, rises, covers, walk, IsNested, IsDisjoint, recolour}
 use Rattle.quandle_core.specs.Quandle.{Table, IsQuandle}
-use Rattle.colour_laws.proofs.ColouredColumns.{act, columns, xs_of, os_of, ys_of, IsColouringByColumns, AreInverse, IsMarked, neighbours_traded, encloses, pair_traded, columns_traded, IsTradable, IsTradableAt, traded_colours}
+use Rattle.colour_laws.proofs.ColouredColumns.{act, columns, xs_of, os_of, ys_of, IsColouringByColumns, AreInverse, IsMarked, neighbours_traded, encloses}
+use Rattle.colour_laws.proofs.ColouredColumns.{pair_traded, columns_traded, IsTradable, IsTradableAt, traded_colours}
 use Rattle.colour_laws.proofs.Actions.{undo, redo}
 use Rattle.colour_laws.proofs.Tables.{act_acts, act_below}
 use Rattle.colour_laws.proofs.ExchangeColumns.{nested_walks, disjoint_walks}

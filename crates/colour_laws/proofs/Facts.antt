@@ -1,5 +1,6 @@
 -- The facts under the table of carried colours, over the definitions.
-use Rattle.std.proofs.Common.{◌≡◌, ◌∙◌, ◌<◌, ◌≤◌, ◌+◌, ◌++◌, ℕ, zero, suc, List, [], ◌∷◌, length, drop, fold, ap, ap₂, sym, refl, subst, arith, inl, inr, cond, All}
+use Rattle.std.proofs.Common.{◌≡◌, ◌∙◌, ◌<◌, ◌≤◌, ◌+◌, ◌++◌, ℕ, zero, suc, List, [], ◌∷◌, length, drop, fold, ap, ap₂, sym, refl, subst, arith, inl, inr, cond}
+use Rattle.std.proofs.Common.{All}
 use Rattle.std.specs.Prelude.{Bool, true, false, slice_index, nat_lt, nat_le, ◌&&◌, filter}
 use Rattle.std.specs.List.{range_with_len}
 use Rattle.std.proofs.Math.Bool.{not}

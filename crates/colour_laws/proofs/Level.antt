@@ -4,7 +4,8 @@ use Rattle.std.specs.Prelude.{Bool, true, false, nat_lt, ◌==◌}
 use Rattle.std.proofs.lemmas.Bool.{cond-true, cond-false, ne_eqb, eq-eqb, eqb-true, cases_order, lt-ltb, le-ltb, false≢true}
 use Rattle.colour_laws.proofs.ColumnLists.{Acts, Column, xs_in, os_in, crosses, level, IsColoured}
 use Rattle.colour_laws.proofs.Actions.{crossed_carries}
-use Rattle.colour_laws.proofs.Rows.{cross, ring, apart, side, ends_cross, ends_ring, ends_apart, on_at, row_at, row_end, row_apart, on_end, on_apart, crosses_above, row_walk}
+use Rattle.colour_laws.proofs.Rows.{cross, ring, apart, side, ends_cross, ends_ring, ends_apart, on_at, row_at, row_end, row_apart, on_end, on_apart}
+use Rattle.colour_laws.proofs.Rows.{crosses_above, row_walk}
 
 -- counts of marks, column by column
 pub xs_here : (r : ℕ) (c : Column) (cs : List Column) → c.x ≡ r → xs_in r (c ∷ cs) ≡ suc (xs_in r cs)

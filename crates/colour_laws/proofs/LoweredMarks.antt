@@ -3,7 +3,8 @@ use Rattle.std.proofs.Common.{◌≡◌, ◌∙◌, ◌<◌, ◌-◌, ℕ, suc, 
 use Rattle.std.specs.Prelude.{Bool, true, false, ◌==◌}
 use Rattle.std.proofs.Math.Bool.{not}
 use Rattle.std.proofs.lemmas.Bool.{cond-true, cond-false, cases_Bool}
-use Rattle.colour_laws.proofs.ColumnLists.{Column, ends, xs_in, os_in, rises, IsInside, dropped, lowered, lowered_on, recoloured, recoloured_on, relabel, recolour}
+use Rattle.colour_laws.proofs.ColumnLists.{Column, ends, xs_in, os_in, rises, IsInside, dropped, lowered, lowered_on, recoloured, recoloured_on, relabel}
+use Rattle.colour_laws.proofs.ColumnLists.{recolour}
 use Rattle.colour_laws.proofs.Relabel.{xs_relabel, os_relabel}
 use Rattle.colour_laws.proofs.DroppedColumns.{eq_dropped, eq_dropped_top}
 

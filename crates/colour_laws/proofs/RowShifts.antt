@@ -9,7 +9,8 @@ use Rattle.std.proofs.lemmas.Bool.{cond-true, cond-false, cases_Bool}
 use Rattle.grid_core.specs.Diagram.{Diagram, IsGrid}
 use Rattle.colour_laws.proofs.ColumnLists.{Acts, Column, ends, rises, IsColoured, relabel, recolour, dropped, lowered, recoloured, recoloured_on}
 use Rattle.quandle_core.specs.Quandle.{Table, IsQuandle}
-use Rattle.colour_laws.proofs.ColouredColumns.{act, columns, xs_of, os_of, ys_of, IsColouringByColumns, AreInverse, IsMarked, fallen, fallen_colours, risen_colours, rows_carry, rows_return}
+use Rattle.colour_laws.proofs.ColouredColumns.{act, columns, xs_of, os_of, ys_of, IsColouringByColumns, AreInverse, IsMarked, fallen, fallen_colours}
+use Rattle.colour_laws.proofs.ColouredColumns.{risen_colours, rows_carry, rows_return}
 use Rattle.colour_laws.proofs.Actions.{undo}
 use Rattle.colour_laws.proofs.Tables.{act_acts, act_below}
 use Rattle.colour_laws.proofs.LoweredMarks.{lowered_is, recoloured_on_end, recoloured_on_apart}

@@ -8,7 +8,8 @@ use Rattle.grid_core.specs.Diagram.{Diagram, IsGrid}
 use Rattle.colour_laws.proofs.ColumnLists.{Acts, Column, ends, crossed, crosses, walk, xs_in, os_in, relabel, swapped, IsColoured}
 use Rattle.quandle_core.specs.Quandle.{Table, IsQuandle}
 use Rattle.colour_laws.proofs.ColouredColumns.{act, columns, xs_of, os_of, ys_of, IsColouringByColumns, AreInverse, IsMarked, HasBoth, bare}
-use Rattle.colour_laws.proofs.Rows.{on_at, row_at, row_end, row_apart, on_end, on_apart, row_walk, row_above, crosses_above, ends_cross, ends_ring, ends_apart, cross, ring, apart, side}
+use Rattle.colour_laws.proofs.Rows.{on_at, row_at, row_end, row_apart, on_end, on_apart, row_walk, row_above, crosses_above, ends_cross, ends_ring, ends_apart}
+use Rattle.colour_laws.proofs.Rows.{cross, ring, apart, side}
 use Rattle.colour_laws.proofs.Level.{xs_here, xs_not_here, os_here, os_not_here}
 use Rattle.colour_laws.proofs.Relabel.{ends_relabel, row_relabel, eq_lower, eq_upper, eq_other, lt_lower, lt_upper, lt_other}
 use Rattle.colour_laws.proofs.DroppedColumns.{same_tests}

@@ -3,11 +3,13 @@ use Rattle.std.proofs.Common.{◌≡◌, ◌≢◌, ◌∙◌, ◌<◌, ◌-◌,
 use Rattle.std.specs.Prelude.{Bool, true, false, nat_lt, ◌==◌, ◌⊎◌, ◌||◌}
 use Rattle.std.proofs.Math.Bool.{not}
 use Rattle.std.proofs.lemmas.Bool.{cond-true, cond-false, eqb-true, false≢true, cases_Bool, cases_lt, cases_order, lt-ltb, le-ltb}
-use Rattle.colour_laws.proofs.ColumnLists.{Acts, Column, ends, xs_in, os_in, crossed, crosses, IsColoured, rises, IsInside, dropped, lowered, lowered_on, relabel, recolour}
+use Rattle.colour_laws.proofs.ColumnLists.{Acts, Column, ends, xs_in, os_in, crossed, crosses, IsColoured, rises, IsInside, dropped, lowered, lowered_on}
+use Rattle.colour_laws.proofs.ColumnLists.{relabel, recolour}
 use Rattle.colour_laws.proofs.Actions.{crossed_carried, crossed_carries, crossed_fixed, undo}
 use Rattle.colour_laws.proofs.Rows.{cross, ring, apart, side, ends_cross, ends_ring, ends_apart, on_at, row_at, row_end, row_apart, on_end, on_apart, row_walk}
 use Rattle.colour_laws.proofs.Level.{xs_here, xs_not_here, os_here, os_not_here, on_clear}
-use Rattle.colour_laws.proofs.DroppedColumns.{dropped_other, eq_dropped_top, ends_dropped, crosses_dropped, flipped_cross, flipped_ring, on_dropped, row_dropped, crosses_left, same_tests, flipped_right, crosses_lowest}
+use Rattle.colour_laws.proofs.DroppedColumns.{dropped_other, eq_dropped_top, ends_dropped, crosses_dropped, flipped_cross, flipped_ring, on_dropped}
+use Rattle.colour_laws.proofs.DroppedColumns.{row_dropped, crosses_left, same_tests, flipped_right, crosses_lowest}
 use Rattle.colour_laws.proofs.LoweredMarks.{lowered_on_end, lowered_on_apart, lowered_end, lowered_apart, marks_lowered, marks_lowered_top}
 
 -- between the ends of the lowest row: a walk there goes with the action done to its colour

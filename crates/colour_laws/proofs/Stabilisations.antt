@@ -8,7 +8,8 @@ use Rattle.std.proofs.lemmas.Bool.{cases_eq, cases_lt, cases_order, eq-eqb, ne_e
 use Rattle.grid_core.specs.Diagram.{Diagram, IsGrid}
 use Rattle.colour_laws.proofs.ColumnLists.{Column, ends, relabel, corner_row, raised, short, long, with_block, IsMarkAt, IsColoured, IsInside}
 use Rattle.quandle_core.specs.Quandle.{Table, IsQuandle}
-use Rattle.colour_laws.proofs.ColouredColumns.{act, columns, xs_of, os_of, ys_of, IsColouringByColumns, AreInverse, IsMarked, doubled, without, bare, IsStabilised}
+use Rattle.colour_laws.proofs.ColouredColumns.{act, columns, xs_of, os_of, ys_of, IsColouringByColumns, AreInverse, IsMarked, doubled, without, bare}
+use Rattle.colour_laws.proofs.ColouredColumns.{IsStabilised}
 use Rattle.colour_laws.proofs.Rows.{row_at, row_walk, row_end, row_apart, on_end}
 use Rattle.colour_laws.proofs.Stabilise.{two_rows, under, level_with, above, lifts, raised_corner, with_block_rows}
 use Rattle.colour_laws.proofs.Tables.{act_acts}

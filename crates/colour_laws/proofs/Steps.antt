@@ -2,7 +2,8 @@
 use Rattle.std.proofs.Common.{◌≡◌, ℕ, List, sym, subst}
 use Rattle.grid_core.specs.Diagram.{Diagram}
 use Rattle.grid_moves.specs.declared.step.Move.{Move}
-use Rattle.grid_moves.specs.declared.step.Move.TheVariants.{ShiftColumns, ShiftRows, ExchangeColumns, ExchangeRows, SlideColumns, SlideRows, Stabilise, Destabilise}
+use Rattle.grid_moves.specs.declared.step.Move.TheVariants.{ShiftColumns, ShiftRows, ExchangeColumns, ExchangeRows, SlideColumns, SlideRows, Stabilise}
+use Rattle.grid_moves.specs.declared.step.Move.TheVariants.{Destabilise}
 use Rattle.grid_moves.specs.Step.{Step}
 use Rattle.quandle_core.specs.Quandle.{Table, IsQuandle}
 use Rattle.colour_rows.specs.Colouring.{IsColouring}

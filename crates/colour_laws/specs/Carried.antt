@@ -1,13 +1,15 @@
 -- The colours that each move carries: what becomes of the colours of a diagram's columns when the move is made.
 -- A strand that passes under a strand of colour a from that strand's right to its left goes from y to y ▷ a (Joyce 1982).
--- On the page, `passed_rightward` is what y becomes under a column from left to right (for an up column that is from the column's left to its right), and `passed_leftward` the other way.
+-- On the page, `passed_rightward` is what y becomes under a column from left to right (for an up column that is from the column's left to its right),
+-- and `passed_leftward` the other way.
 use Rattle.std.specs.Prelude.{ℕ, zero, suc, ◌+◌, ◌-◌, ◌%◌, ◌==◌, ◌&&◌, Bool, List, map, slice_index, nat_lt, if◌then◌else◌}
 use Rattle.std.specs.List.{range_with_len}
 use Rattle.grid_core.specs.Diagram.{Diagram, size}
 use Rattle.grid_core.specs.Span.{lies_within}
 use Rattle.grid_core.specs.Parts.{column_span, ends, is_up}
 use Rattle.grid_moves.specs.declared.step.Move.{Move}
-use Rattle.grid_moves.specs.declared.step.Move.TheVariants.{ShiftColumns, ShiftRows, ExchangeColumns, ExchangeRows, SlideColumns, SlideRows, Stabilise, Destabilise}
+use Rattle.grid_moves.specs.declared.step.Move.TheVariants.{ShiftColumns, ShiftRows, ExchangeColumns, ExchangeRows, SlideColumns, SlideRows, Stabilise}
+use Rattle.grid_moves.specs.declared.step.Move.TheVariants.{Destabilise}
 use Rattle.grid_moves.specs.Shift.{shifted}
 use Rattle.quandle_core.specs.Quandle.{Table}
 use Rattle.colour_rows.specs.Walk.{passed_rightward, passed_leftward}
@@ -64,7 +66,8 @@ stabilised c d colours = by_column (size d + 1) (λ i. slice_index colours (if n
 abbrev pub destabilised : ℕ → Diagram → List ℕ → List ℕ
 destabilised c d colours = by_column (size d - 1) (λ i. slice_index colours (if nat_lt c i then i + 1 else i))
 
--- the colours that a move carries. An exchange of rows leaves every column its colour; so does a slide of rows, and one of columns, of which the two have one colour.
+-- the colours that a move carries. An exchange of rows leaves every column its colour; so does a slide of rows, and one of columns, of which the two
+-- have one colour.
 abbrev pub carried : Table → Diagram → Move → List ℕ → List ℕ
 carried t d (ShiftColumns k) colours = columns_shifted k d colours
 carried t d (ShiftRows k) colours = rows_shifted t k d colours

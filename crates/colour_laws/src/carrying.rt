@@ -18,7 +18,7 @@ use quandle_core::Quandle;
 /// Columns go with their colours, but for two cases in which a colour y becomes `y ▷ a` or `y ◁ a`. Where rows are
 /// shifted, the strand of each row that goes from the bottom to the top, of colour a, passes over the columns strictly
 /// between its ends. Where nested columns are exchanged, the inner one passes under the outer one, of colour a.
-/// A stabilisation doubles its column's colour, and a destabilisation merges the two. Of columns that slide the two have
+/// A stabilisation doubles its column's colour, and a destabilisation merges the two. The two columns of a slide have
 /// one colour, so that the list stays as it is.
 ///
 /// Takes no memory. Each column is touched a bounded number of times; a shift of rows by k does so k times.

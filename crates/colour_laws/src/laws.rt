@@ -90,7 +90,7 @@ pub fn every_move_carries_one_to_one()
         → IsBijection (IsColouring t d) (IsColouring t e) (carried t d move) }
 {}
 
-/// An action slides along a chain: before the chain in colour a, it is one behind it in the colour to which the chain takes a.
+/// An action slides along a chain: the action by colour a and then the chain are the same as the chain and then the action by what it makes of a.
 /// So two columns of opposite directions at the two ends of one row cancel round the chain between them.
 pub fn an_action_slides_along_a_chain()
     ensures sliding { (t : Table) (up : Bool) (chain : List (Bool × ℕ)) (a x : ℕ)

@@ -111,7 +111,7 @@ fn lift_row(grid: &Grid, quandle: &Quandle, colours: &mut [u8], row: u8)
     }
 }
 
-/// Whether the left end of a row is up when all lower rows have gone to the top: where its X stands in this row.
+/// Whether the left end of a row is up when all lower rows have gone to the top: where its X is in this row.
 #[tactic(auto, using(crate::proofs::Moments::up_at_bottom))]
 fn is_up_at_bottom(grid: &Grid, left: u8, row: u8) -> bool
     requires row { row < size grid.now }

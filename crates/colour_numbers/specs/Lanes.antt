@@ -34,6 +34,7 @@ AreLanes d lanes = lanes ≡ map (lane d) (range_with_len 0 (size d))
 abbrev pub lane_region_left : Table → Lane → List ℕ → ℕ → ℕ
 lane_region_left t l colours outer = fold (λ w (p : Pass). passed_rightward t p.up w (slice_index colours p.column)) outer l.before.items
 
+-- the region on the right-hand side of the left end: behind an up column, before a down one
 abbrev pub lane_region_start : Table → Lane → List ℕ → ℕ → ℕ
 lane_region_start t l colours outer =
     if l.up then passed_rightward t l.up (lane_region_left t l colours outer) (slice_index colours l.row.left_end) else lane_region_left t l colours outer

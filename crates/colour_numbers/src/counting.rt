@@ -16,7 +16,7 @@ use grid_core::Grid;
 use quandle_core::Operations;
 use std::alloc::Global;
 
-/// How many colours are chosen by so many seeds: one for each, and by a shadow cocycle one more, for the outer region.
+/// How many colours are chosen: one for each of this many seeds, and for a shadow cocycle one more, for the outer region.
 pub fn choices_of(cocycle: &Option<LargeWeighing>, seeds: usize) -> usize
     requires { seeds < 2 ^ 64 - 1 }
     ensures { result ≡ choices_of cocycle.now seeds }

@@ -9,7 +9,7 @@ use colour_rows::{Pass, Row};
 use grid_core::{Grid, MAX_SIZE};
 use std::alloc::{AllocFailed, Global};
 
-/// A row of a diagram, with the columns that cover it: those left of its left end, behind which its left end lies, and those that it passes under.
+/// A row of a diagram, with the columns that cover it: those left of its left end, and those that it passes under.
 #[derive(Drop)]
 pub struct Lane {
     pub row: Row,

@@ -11,7 +11,7 @@ use colour_weights::ShadowCocycle;
 use colour_weights::sums::{minus, plus};
 use quandle_core::Quandle;
 
-/// Where the walk of a lane stands: the colour of the strand, that of the region on its right-hand side, and the weighted sum so far.
+/// The state of the walk of a lane: the colour of the strand, that of the region on its right-hand side, and the weighted sum so far.
 #[derive(Clone, Copy)]
 pub struct Standing {
     pub colour: u8,
@@ -43,7 +43,7 @@ fn lane_weight(cocycle: &ShadowCocycle, lane: &Lane, colours: &[u8], outer: u8) 
     ensures weight { result ≡ lane_weight cocycle.now lane.now colours.now outer }
     ensures below { result < cocycle.now.modulus }
 {
-    let sum = walked(cocycle, lane, colours, outer).sum;
+    let sum = lane_walked(cocycle, lane, colours, outer).sum;
     if lane.rightward {
         sum
     } else {
@@ -52,7 +52,7 @@ fn lane_weight(cocycle: &ShadowCocycle, lane: &Lane, colours: &[u8], outer: u8) 
 }
 
 /// The walk of a lane from its left end to its right end.
-fn walked(cocycle: &ShadowCocycle, lane: &Lane, colours: &[u8], outer: u8) -> Standing
+fn lane_walked(cocycle: &ShadowCocycle, lane: &Lane, colours: &[u8], outer: u8) -> Standing
     requires within { LaneIsWithin (length colours.now) lane.now }
     requires below { All (λ y. y < cocycle.now.quandle.order) colours.now }
     requires outer { outer < cocycle.now.quandle.order }
@@ -62,7 +62,7 @@ fn walked(cocycle: &ShadowCocycle, lane: &Lane, colours: &[u8], outer: u8) -> St
     let _modulus = cocycle.modulus();
     let quandle = cocycle.quandle();
     let _order = quandle.order();
-    let region = region_start(quandle, lane, colours, outer);
+    let region = lane_region_start(quandle, lane, colours, outer);
     let mut at = Standing {
         colour: colours[lane.row.left() as usize],
         region,
@@ -74,8 +74,8 @@ fn walked(cocycle: &ShadowCocycle, lane: &Lane, colours: &[u8], outer: u8) -> St
     at
 }
 
-/// The colour of the region on the right-hand side of the left end of a lane: behind an up column, before a down one.
-fn region_start(quandle: &Quandle, lane: &Lane, colours: &[u8], outer: u8) -> u8
+/// The colour of the region on the right-hand side of the left end of a lane: after an up column, before a down one.
+fn lane_region_start(quandle: &Quandle, lane: &Lane, colours: &[u8], outer: u8) -> u8
     requires within { LaneIsWithin (length colours.now) lane.now }
     requires below { All (λ y. y < quandle.now.order) colours.now }
     requires outer { outer < quandle.now.order }
@@ -83,7 +83,7 @@ fn region_start(quandle: &Quandle, lane: &Lane, colours: &[u8], outer: u8) -> u8
     ensures below { result < quandle.now.order }
 {
     let _order = quandle.order();
-    let region = region_left(quandle, lane, colours, outer);
+    let region = lane_region_left(quandle, lane, colours, outer);
     if lane.up {
         passed_rightward(quandle, lane.up, region, colours[lane.row.left() as usize])
     } else {
@@ -92,7 +92,7 @@ fn region_start(quandle: &Quandle, lane: &Lane, colours: &[u8], outer: u8) -> u8
 }
 
 /// The colour of the region left of the left end of a lane.
-fn region_left(quandle: &Quandle, lane: &Lane, colours: &[u8], outer: u8) -> u8
+fn lane_region_left(quandle: &Quandle, lane: &Lane, colours: &[u8], outer: u8) -> u8
     requires within { LaneIsWithin (length colours.now) lane.now }
     requires below { All (λ y. y < quandle.now.order) colours.now }
     requires outer { outer < quandle.now.order }
@@ -107,7 +107,7 @@ fn region_left(quandle: &Quandle, lane: &Lane, colours: &[u8], outer: u8) -> u8
     region
 }
 
-/// Where the walk stands behind a column of colour y.
+/// The state of the walk after a column of colour y.
 fn stepped(cocycle: &ShadowCocycle, up: bool, at: Standing, y: u8) -> Standing
     requires colours { (at.colour < cocycle.now.quandle.order) × (at.region < cocycle.now.quandle.order) × (y < cocycle.now.quandle.order) }
     requires sum { at.sum < cocycle.now.modulus }
@@ -121,7 +121,7 @@ fn stepped(cocycle: &ShadowCocycle, up: bool, at: Standing, y: u8) -> Standing
     }
 }
 
-/// Where the walk stands behind an up column of colour y: what the crossing has on the column's right-hand side lies behind it, and is taken away.
+/// The state of the walk after an up column of colour y: what the crossing has on the column's right-hand side lies after it, and is taken away.
 fn stepped_up(cocycle: &ShadowCocycle, at: Standing, y: u8) -> Standing
     requires colours { (at.colour < cocycle.now.quandle.order) × (at.region < cocycle.now.quandle.order) × (y < cocycle.now.quandle.order) }
     requires sum { at.sum < cocycle.now.modulus }
@@ -141,7 +141,7 @@ fn stepped_up(cocycle: &ShadowCocycle, at: Standing, y: u8) -> Standing
     }
 }
 
-/// Where the walk stands behind a down column of colour y: what the crossing has is added.
+/// The state of the walk after a down column of colour y: what the crossing has is added.
 fn stepped_down(cocycle: &ShadowCocycle, at: Standing, y: u8) -> Standing
     requires colours { (at.colour < cocycle.now.quandle.order) × (at.region < cocycle.now.quandle.order) × (y < cocycle.now.quandle.order) }
     requires sum { at.sum < cocycle.now.modulus }

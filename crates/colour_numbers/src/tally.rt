@@ -22,7 +22,7 @@ use std::alloc::Global;
 
 /// For each weight, how often the colourings that the seeds of a plan give have it. The colourings are not kept.
 ///
-/// The seeds are to have few choices of colours. Want of memory is the only error.
+/// The seeds are to have few choices of colours. It fails only if memory runs out.
 pub(crate) fn tally_all<W: Weigher>(
     alloc: Global,
     grid: &Grid,

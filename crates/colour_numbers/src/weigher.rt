@@ -16,7 +16,7 @@ pub trait Weigher {
     /// Weights are below it.
     ghost modulus: { Self → ℕ };
 
-    /// How often a list is counted at most: one time for each colour that is chosen beside it.
+    /// The most times that a list is counted: once for each colour that is chosen beside it.
     ghost choices: { Self → ℕ };
 
     /// How often a list of colours has a weight.

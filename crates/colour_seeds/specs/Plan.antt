@@ -11,9 +11,11 @@ use Rattle.colour_seeds.specs.declared.progress.Step.{Step}
 use Rattle.colour_seeds.specs.declared.progress.Step.TheVariants.{Seed, Rightward, Leftward, Test}
 use Rattle.colour_seeds.specs.declared.progress.SeedProgress.{SeedProgress}
 
+-- column c is known
 abbrev pub is_known : SeedProgress → ℕ → Bool
 is_known g c = slice_index_or g.known c false
 
+-- row r was read
 abbrev pub is_read : SeedProgress → ℕ → Bool
 is_read g r = slice_index_or g.read r false
 
@@ -28,6 +30,7 @@ by_ends r true false = Some (Rightward r)
 by_ends r false true = Some (Leftward r)
 by_ends r false false = None
 
+-- what row r does: nothing where it was read, or where a column that passes over it is not known
 abbrev pub row_step : Diagram → SeedProgress → ℕ → Option Step
 row_step d g r = if is_read g r || not (overs_known d g r) then None else by_ends r (is_known g (ends d r).low) (is_known g (ends d r).high)
 
@@ -65,6 +68,7 @@ pub record IsPlan (d : Diagram) (steps : List Step) : Type 0 where
   pub known : (c : ℕ) → c < size d → is_known last c ≡ true
   pub read : (r : ℕ) → r < size d → is_read last r ≡ true
 
+-- the step is that of a seed
 abbrev pub is_seed : Step → Bool
 is_seed (Seed c) = true
 is_seed (Rightward r) = false

@@ -54,7 +54,7 @@ impl From<AllocFailed<u32>> for CountFault {
     }
 }
 
-/// Whether so many colours can be chosen in at most `MAX_CANDIDATES` ways: the order of the quandle to the power of their number. Takes no memory.
+/// Whether this many colours can be chosen in at most `MAX_CANDIDATES` ways, which are the order of the quandle to that power. Takes no memory.
 pub fn few_ways(quandle: &Operations, choices: usize) -> bool
     ensures { result ≡ few_ways quandle.now choices }
 {

@@ -53,7 +53,7 @@ impl Model for Seeding {
 }
 
 impl Seeding {
-    /// The plan of these seeds: each that those before it do not settle takes each colour, and what then follows is read off the rows.
+    /// The plan of these seeds. Each seed that those before it do not settle takes each colour, and the colours that follow are read off the rows.
     ///
     /// Refused exactly where one is no column of the grid, or where they do not settle all columns.
     pub fn new(alloc: Global, grid: &Grid, seeds: &[u8]) -> Result<Seeding, SeedFault>
@@ -102,14 +102,14 @@ impl Seeding {
     }
 }
 
-/// Steps, and what is known and read behind them.
+/// Steps, and what is known and read after them.
 #[derive(Drop)]
 struct Way {
     steps: Vec<Step>,
     progress: SeedProgress,
 }
 
-/// The steps by which the seeds settle all columns that they do settle, and what is known and read behind them.
+/// The steps by which the seeds settle all columns that they do settle, and what is known and read after them.
 fn way_of(alloc: Global, grid: &Grid, seeds: &[u8]) -> Result<Way, AllocFailed<Step>>
     requires columns { All (λ s. s < size grid.now) seeds.now }
     ensures leads { IfOk result (λ w. LeadsBySteps grid.now nothing w.steps.items w.progress) }
@@ -133,7 +133,7 @@ fn way_of(alloc: Global, grid: &Grid, seeds: &[u8]) -> Result<Way, AllocFailed<S
     Ok(last)
 }
 
-/// One seed more, where it is not settled yet, with all that follows from it.
+/// The way with one seed more, where that is not settled yet, and with all steps that then follow.
 fn seeded(grid: &Grid, way: Way, seed: u8) -> Result<Way, AllocFailed<Step>>
     requires column { seed < size grid.now }
     requires leads { LeadsBySteps grid.now nothing way.steps.items way.progress }

@@ -19,9 +19,9 @@ struct RowMask {
     ends: u64,
 }
 
-/// Few seeds of a grid: the first of the least sets of at most four columns that settle all, and else each column that those left of it do not settle.
+/// Few seeds of a grid: the first of the least sets of at most four columns that settle all, or else each column that those left of it do not settle.
 ///
-/// That they are few isn't promised.
+/// That they are few isn't proved.
 pub fn seeds_of(alloc: Global, grid: &Grid) -> Result<Seeding, SeedFault>
     ensures plan { IfOk result (λ s. IsPlan grid.now s) }
     ensures fault { IfErr result (λ e. e ≡ fault.OutOfMemory) }

@@ -15,7 +15,8 @@ use Rattle.colour_weights.proofs.RowSteps.{sum_on_end, sum_on_apart, sum_row_end
 use Rattle.colour_weights.proofs.Over.{no_more}
 use Rattle.colour_weights.proofs.Relabelled.{sum_turned, turned_end, turned_apart, sum_on_clear, sum_on_above, swapped_up, swapped_down}
 use Rattle.colour_weights.proofs.PairedRows.{is_first, is_within, is_inner, way_top, way_mid, gain_mid, first_not, first_later, sum_first, both_on}
-use Rattle.colour_weights.proofs.PairedRows.{below_crossed, above_crossed, left_below, left_above, ends_meet, shared_right, shared_left, kept_beside, low_same, top_same, paired_equal, begun}
+use Rattle.colour_weights.proofs.PairedRows.{below_crossed, above_crossed, left_below, left_above, ends_meet, shared_right, shared_left, kept_beside, low_same}
+use Rattle.colour_weights.proofs.PairedRows.{top_same, paired_equal, begun}
 
 module _ (k : ℕ) (p : Bool → ℕ → ℕ → ℕ) (G : Bool → ℕ → ℕ → ℕ → ℕ) (acts : Acts p) (w : Weighs k p G) (r : ℕ) where
   abbrev low_was : ℕ → List Column → ℕ

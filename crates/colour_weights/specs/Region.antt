@@ -18,7 +18,7 @@ region t d colours outer h c = fold (under t d colours) outer (filter (covers_he
 abbrev pub height_beside : Diagram → ℕ → ℕ
 height_beside d r = if is_rightward d r then r else r + 1
 
--- and on its left-hand side
+-- the height beside row r on its left-hand side: above a row that runs to the right, and below one that runs to the left
 abbrev pub height_across : Diagram → ℕ → ℕ
 height_across d r = if is_rightward d r then r + 1 else r
 

@@ -43,5 +43,6 @@ abbrev pub shadow_row_weight : ShadowCochain → Diagram → List ℕ → ℕ �
 shadow_row_weight t d colours outer r =
     if is_rightward d r then (shadow_walked t d colours outer r).sum else (t.modulus - (shadow_walked t d colours outer r).sum) % t.modulus
 
+-- the sum of the weights of the rows, mod the modulus
 abbrev pub shadow_weight_by_rows : ShadowCochain → Diagram → List ℕ → ℕ → ℕ
 shadow_weight_by_rows t d colours outer = sum_by (shadow_row_weight t d colours outer) (range_with_len 0 (size d)) % t.modulus

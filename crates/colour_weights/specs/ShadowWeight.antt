@@ -26,6 +26,7 @@ abbrev pub shadow_positive_sum : ShadowCochain → Diagram → List ℕ → ℕ 
 shadow_positive_sum t d colours outer =
     sum_by (λ r. sum_by (λ c. shadow_crossing_value t d colours outer c r) (filter (λ c. is_positive d c r) (passed d r))) (range_with_len 0 (size d))
 
+-- the sum over the negative crossings
 abbrev pub shadow_negative_sum : ShadowCochain → Diagram → List ℕ → ℕ → ℕ
 shadow_negative_sum t d colours outer =
     sum_by (λ r. sum_by (λ c. shadow_crossing_value t d colours outer c r) (filter (λ c. not (is_positive d c r)) (passed d r))) (range_with_len 0 (size d))
@@ -34,5 +35,6 @@ shadow_negative_sum t d colours outer =
 abbrev pub difference : ℕ → ℕ → ℕ → ℕ
 difference k a b = (a + (k - b % k)) % k
 
+-- the one sum less the other, mod the modulus
 abbrev pub shadow_weight : ShadowCochain → Diagram → List ℕ → ℕ → ℕ
 shadow_weight t d colours outer = difference t.modulus (shadow_positive_sum t d colours outer) (shadow_negative_sum t d colours outer)

@@ -15,9 +15,11 @@ crossing_value w d colours c r = value w (colour_beside w.quandle d colours c r)
 abbrev pub positive_sum : Cochain → Diagram → List ℕ → ℕ
 positive_sum w d colours = sum_by (λ r. sum_by (λ c. crossing_value w d colours c r) (filter (λ c. is_positive d c r) (passed d r))) (range_with_len 0 (size d))
 
+-- the sum over the negative crossings
 abbrev pub negative_sum : Cochain → Diagram → List ℕ → ℕ
 negative_sum w d colours = sum_by (λ r. sum_by (λ c. crossing_value w d colours c r) (filter (λ c. not (is_positive d c r)) (passed d r)))
     (range_with_len 0 (size d))
 
+-- the one sum less the other, mod the modulus
 abbrev pub weight : Cochain → Diagram → List ℕ → ℕ
 weight w d colours = difference w.modulus (positive_sum w d colours) (negative_sum w d colours)

@@ -4,7 +4,7 @@ ghost use Rattle.std.specs.List.{range_with_len};
 
 use std::alloc::{AllocFailed, Global};
 
-/// One more of a weight, in the counts by weight.
+/// Adds one to the count of a weight.
 pub fn count_one(counts: &mut [u32], weight: u8)
     requires inside { weight < length counts.old }
     requires room { slice_index counts.old weight < 2 ^ 32 - 1 }

@@ -12,7 +12,7 @@ use cocycle_core::ShadowCocycle;
 use colour_rows::passed_rightward;
 use grid_core::Grid;
 
-/// Where the walk of a row stands: the colour of the strand, that of the region on its right-hand side, and the weighted sum so far.
+/// The state of the walk of a row: the colour of the strand, that of the region on its right-hand side, and the weighted sum so far.
 #[derive(Clone, Copy)]
 pub struct ShadowWalker {
     pub colour: u8,
@@ -21,7 +21,7 @@ pub struct ShadowWalker {
 }
 
 /// The weight of a row by a shadow cocycle, with a colour of the outer region.
-pub(crate) fn row_weight(
+pub(crate) fn shadow_row_weight(
     grid: &Grid,
     cocycle: &ShadowCocycle,
     colours: &[u8],
@@ -34,7 +34,7 @@ pub(crate) fn row_weight(
     ensures weight { result ≡ shadow_row_weight cocycle.now grid.now colours.now outer row }
     ensures below { result < cocycle.now.modulus }
 {
-    let sum = walked(grid, cocycle, colours, outer, row).sum;
+    let sum = shadow_walked(grid, cocycle, colours, outer, row).sum;
     if grid.is_rightward(row) {
         sum
     } else {
@@ -60,7 +60,7 @@ fn region_left(grid: &Grid, cocycle: &ShadowCocycle, colours: &[u8], outer: u8, 
     region
 }
 
-/// The colour of a region behind a column of colour y, in a row.
+/// The colour of a region after a column of colour y, in a row.
 fn across(grid: &Grid, cocycle: &ShadowCocycle, region: u8, row: u8, column: u8, y: u8) -> u8
     requires column { column < size grid.now }
     requires colours { (region < cocycle.now.quandle.order) × (y < cocycle.now.quandle.order) }
@@ -74,7 +74,7 @@ fn across(grid: &Grid, cocycle: &ShadowCocycle, region: u8, row: u8, column: u8,
     }
 }
 
-/// The colour of the region on the right-hand side of the left end of a row: behind an up column, before a down one.
+/// The colour of the region on the right-hand side of the left end of a row: after an up column, before a down one.
 fn region_start(grid: &Grid, cocycle: &ShadowCocycle, colours: &[u8], outer: u8, row: u8) -> u8
     requires row { row < size grid.now }
     requires colours { AreColours (size grid.now) cocycle.now.quandle.order colours.now }
@@ -119,7 +119,13 @@ fn set_out(grid: &Grid, cocycle: &ShadowCocycle, colours: &[u8], outer: u8, row:
 }
 
 /// The walk of a row from its left end to its right end.
-fn walked(grid: &Grid, cocycle: &ShadowCocycle, colours: &[u8], outer: u8, row: u8) -> ShadowWalker
+fn shadow_walked(
+    grid: &Grid,
+    cocycle: &ShadowCocycle,
+    colours: &[u8],
+    outer: u8,
+    row: u8,
+) -> ShadowWalker
     requires row { row < size grid.now }
     requires colours { AreColours (size grid.now) cocycle.now.quandle.order colours.now }
     requires outer { outer < cocycle.now.quandle.order }
@@ -132,42 +138,42 @@ fn walked(grid: &Grid, cocycle: &ShadowCocycle, colours: &[u8], outer: u8, row: 
     let (left, right) = grid.ends(row);
     let mut at = set_out(grid, cocycle, colours, outer, row);
     for column in left + 1..right {
-        at = past(grid, cocycle, at, row, column, colours[column as usize]);
+        at = shadow_past(grid, cocycle, at, (column, row), colours[column as usize]);
     }
     at
 }
 
-/// A walker of a row behind a column of colour y: it passes under the column where this covers the row.
-fn past(
+/// A walker after a cell, a column of colour y and a row: it passes under the column where this covers the row.
+fn shadow_past(
     grid: &Grid,
     cocycle: &ShadowCocycle,
     at: ShadowWalker,
-    row: u8,
-    column: u8,
+    cell: (u8, u8),
     y: u8,
 ) -> ShadowWalker
-    requires column { column < size grid.now }
+    requires column { cell.0 < size grid.now }
     requires colours { (at.colour < cocycle.now.quandle.order) × (at.region < cocycle.now.quandle.order) × (y < cocycle.now.quandle.order) }
     requires sum { at.sum < cocycle.now.modulus }
-    ensures past { result ≡ (if covers grid.now column row then shadow_stepped cocycle.now (is_up grid.now column) at y else at) }
+    ensures past { result ≡ (if covers grid.now cell.0 cell.1 then shadow_stepped cocycle.now (is_up grid.now cell.0) at y else at) }
     ensures below { (result.colour < cocycle.now.quandle.order) × (result.region < cocycle.now.quandle.order) × (result.sum < cocycle.now.modulus) }
 {
+    let (column, row) = cell;
     if grid.covers(column, row) {
-        stepped(cocycle, grid.is_up(column), at, y)
+        shadow_stepped(cocycle, grid.is_up(column), at, y)
     } else {
         at
     }
 }
 
 /// A walker under a column of colour y.
-fn stepped(cocycle: &ShadowCocycle, up: bool, at: ShadowWalker, y: u8) -> ShadowWalker
+fn shadow_stepped(cocycle: &ShadowCocycle, up: bool, at: ShadowWalker, y: u8) -> ShadowWalker
     requires colours { (at.colour < cocycle.now.quandle.order) × (at.region < cocycle.now.quandle.order) × (y < cocycle.now.quandle.order) }
     requires sum { at.sum < cocycle.now.modulus }
     ensures stepped { result ≡ shadow_stepped cocycle.now up at y }
     ensures below { (result.colour < cocycle.now.quandle.order) × (result.region < cocycle.now.quandle.order) × (result.sum < cocycle.now.modulus) }
 {
     let _modulus = cocycle.modulus();
-    let gained = gain(cocycle, up, at.region, at.colour, y);
+    let gained = shadow_gain(cocycle, up, at.region, at.colour, y);
     ShadowWalker {
         colour: passed_rightward(cocycle.quandle(), up, at.colour, y),
         region: passed_rightward(cocycle.quandle(), up, at.region, y),
@@ -176,7 +182,7 @@ fn stepped(cocycle: &ShadowCocycle, up: bool, at: ShadowWalker, y: u8) -> Shadow
 }
 
 /// What a walk at colour x, with a region of colour w on its right-hand side, gains under a column of colour y.
-fn gain(cocycle: &ShadowCocycle, up: bool, w: u8, x: u8, y: u8) -> u8
+fn shadow_gain(cocycle: &ShadowCocycle, up: bool, w: u8, x: u8, y: u8) -> u8
     requires { (w < cocycle.now.quandle.order) × (x < cocycle.now.quandle.order) × (y < cocycle.now.quandle.order) }
     ensures gain { result ≡ shadow_gain cocycle.now up w x y }
     ensures below { result < cocycle.now.modulus }

@@ -13,7 +13,7 @@ ghost use Rattle.colour_weights.specs.ShadowWalkSum.{shadow_weight_by_rows};
 ghost use Rattle.colour_weights.specs.ShadowWeights.{shadow_weights};
 
 use crate::counts::{count_one, zeros};
-use crate::shadow_walker::row_weight;
+use crate::shadow_walker::shadow_row_weight;
 use crate::sums::plus;
 use cocycle_core::ShadowCocycle;
 use colour_list::{ListFault, list};
@@ -49,7 +49,7 @@ fn by_rows(grid: &Grid, cocycle: &ShadowCocycle, colours: &Colouring, outer: u8)
         sum = plus(
             modulus,
             sum,
-            row_weight(grid, cocycle, colours.as_slice(), outer, row),
+            shadow_row_weight(grid, cocycle, colours.as_slice(), outer, row),
         );
     }
     sum

@@ -4,12 +4,12 @@ use crate::shadows::SpelledShadow;
 use cocycle_core::LargeCocycle;
 use quandle_core::LargeListed;
 
-/// A cocycle by which colourings are to be weighed, of a quandle that may be larger where the cocycle looks at strands alone.
+/// A cocycle by which colourings are to be weighed. Its quandle may be a larger one if the cocycle looks at strands alone.
 #[derive(Drop)]
 pub enum LargeWeighing {
-    /// A 2-cocycle, behind the word `weight`: it looks at the two strands of a crossing.
+    /// A 2-cocycle, written after the word `weight`: it looks at the two strands of a crossing.
     Strands(LargeCocycle),
-    /// A shadow cocycle, behind the word `shadow`: it looks at a region too. Its quandle has at most `MAX_ORDER` colours.
+    /// A shadow cocycle, written after the word `shadow`: it looks at a region too. Its quandle has at most `MAX_ORDER` colours.
     Regions(SpelledShadow),
 }
 

@@ -12,7 +12,7 @@ use linking_core::{component, linking};
 use memory_core::{Items, OutOfMemory};
 use std::alloc::Global;
 
-/// Why linking numbers do not tell two diagrams apart: the first cause, if there is one.
+/// Why linking numbers do not distinguish two diagrams: the first cause, if there is one.
 pub fn cause_of_links(
     alloc: Global,
     first: &Grid,

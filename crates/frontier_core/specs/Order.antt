@@ -14,7 +14,8 @@ sized id size = record { id = id; size = size }
 abbrev pub of_size : ℕ → List SizedId → List ℕ
 of_size size pairs = map (λ (p : SizedId). p.id) (filter (λ (p : SizedId). p.size == size) pairs)
 
--- The pairs are what is held, in the order in which they were pushed. (The order of pairs of two sizes is not kept, so a frontier has several such lists; whatever is said of one of them holds of each.)
+-- The pairs are what is held, in the order in which they were pushed. (The order of pairs of two sizes is not kept, so a frontier has several such
+-- lists; whatever is said of one of them holds of each.)
 abbrev pub IsOrderOf : List SizedId → HeldIds → Type 0
 IsOrderOf order held = (size : ℕ) → ids_of held size ≡ of_size size order
 

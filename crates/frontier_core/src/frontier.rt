@@ -35,7 +35,7 @@ impl Model for Frontier {
 
 impl Frontier {
     /// A frontier that holds nothing, with the memory for the ids below the capacity: four bytes an
-    /// id. `OutOfMemory` where that memory is not there.
+    /// id. `OutOfMemory` if memory runs out.
     pub fn reserve(alloc: Global, capacity: u32) -> Result<Frontier, OutOfMemory>
         ensures lists { IfOk result (λ frontier. frontier ≡ empty capacity) }
         ensures order { IfOk result (λ frontier. IsOrderOf [] frontier) }
@@ -53,7 +53,7 @@ impl Frontier {
         })
     }
 
-    /// Holds an id, below the capacity and not held, under a size from 0 to 64: it stands behind all
+    /// Adds an id, which is below the capacity and not held, under a size from 0 to 64, after all
     /// ids of that size that are held.
     pub fn push(&mut self, id: u32, size: u8)
         requires below { id < self.old.capacity }
@@ -69,7 +69,7 @@ impl Frontier {
         self.mask = with_size(self.mask, size);
     }
 
-    /// Of the ids of the least size held, the one that was pushed first, which is held no longer;
+    /// Removes and returns, of the ids of the least size held, the one that was pushed first;
     /// `None` exactly where nothing is held.
     pub fn pop_least(&mut self) -> Option<u32>
         ensures first { result ≡ first_of_least self.old }

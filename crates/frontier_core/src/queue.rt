@@ -24,7 +24,7 @@ impl Queue {
         }
     }
 
-    /// The queue without its first id, where `second` is behind it.
+    /// The queue without its first id, where `second` comes after it.
     pub fn shorter(self, second: u32) -> Queue
         requires { 0 < self.count }
         ensures { result ≡ shorter self second }
@@ -36,7 +36,7 @@ impl Queue {
         }
     }
 
-    /// The last id, behind which `id` is put; where there is none, `id` itself.
+    /// The last id, after which `id` is put; if there is none, `id` itself.
     pub fn end_before(self, id: u32) -> u32
         ensures { result ≡ end_before self id }
     {

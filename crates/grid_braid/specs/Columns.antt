@@ -1,4 +1,5 @@
--- The colours of the columns of a grid diagram, from those of the strands of its word: the way of `Feet` taken back. Private clauses and proofs alone cite this.
+-- The colours of the columns of a grid diagram, from those of the strands of its word: the way of `Feet` taken back. Private clauses and proofs alone
+-- cite this.
 use Rattle.std.specs.Prelude.{ℕ, ◌+◌, List, map, take, drop, ◌++◌, fold, reverse, slice_index}
 use Rattle.grid_core.specs.Diagram.{Diagram}
 use Rattle.quandle_core.specs.Quandle.{Table, over}

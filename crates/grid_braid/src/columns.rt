@@ -18,7 +18,7 @@ use quandle_core::Quandle;
 
 /// The one colouring of a grid with these colours at the feet of its word, or None exactly where the word's action does not fix them.
 ///
-/// There is to be a colour below the order for each down column, from left to right. Takes no memory.
+/// There must be a colour below the order for each down column, from left to right. Takes no memory.
 pub fn colours_of(grid: &Grid, quandle: &Quandle, feet: &[u8]) -> Option<Colouring>
     requires { IsTuple quandle.now (word_of_diagram grid.now).strands feet.now }
     ensures none { (result ≡ None) ↔ (action quandle.now (word_of_diagram grid.now).letters feet.now ≢ feet.now) }

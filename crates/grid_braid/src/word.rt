@@ -49,11 +49,13 @@ impl GridWord {
     }
 }
 
-/// The braid word of a grid, or want of memory.
+/// The braid word of a grid, or `OutOfMemory`.
 ///
 /// Each down column is replaced by its complement, which runs upward from its X over the top and from the bottom to its O.
-/// At each height the strands are the up columns that are cut there and the down columns that are not, from left to right; below all rows they are the down columns.
-/// From the lowest row on, each row moves the strand that arrives at its O to its X, under all strands strictly between: from position k+1 to k by the letter `+k`, and from k to k+1 by `-k`.
+/// At each height the strands are the up columns that are cut there and the down columns that are not, from left to right; below all rows they are
+/// the down columns.
+/// From the lowest row on, each row moves the strand that arrives at its O to its X, under all strands strictly between: from position k+1 to k by
+/// the letter `+k`, and from k to k+1 by `-k`.
 pub fn word_of(alloc: Global, grid: &Grid) -> Result<GridWord, OutOfMemory>
     ensures { IfOk result (λ w. w ≡ word_of_diagram grid.now) }
 {

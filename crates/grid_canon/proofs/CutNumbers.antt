@@ -1,5 +1,6 @@
 -- The rows of the translates of a short grid, as the digits of numbers.
-use Rattle.std.proofs.Common.{true, false, IsTrue, nat_lt, ◌↔◌, inl, inr, ◌≡◌, ◌≢◌, ◌<◌, ◌≤◌, ◌+◌, ◌-◌, ◌/◌, ◌^◌, ◌++◌, ◌∷◌, ◌∙◌, ℕ, List, length, take, drop, map, get_or, arith, refl, sym, ap, ap₂, subst, length-append, append-nil}
+use Rattle.std.proofs.Common.{true, false, IsTrue, nat_lt, ◌↔◌, inl, inr, ◌≡◌, ◌≢◌, ◌<◌, ◌≤◌, ◌+◌, ◌-◌, ◌/◌, ◌^◌, ◌++◌, ◌∷◌, ◌∙◌, ℕ, List, length, take, drop}
+use Rattle.std.proofs.Common.{map, get_or, arith, refl, sym, ap, ap₂, subst, length-append, append-nil}
 use Rattle.std.specs.List.{All}
 use Rattle.std.specs.declared.cmp.Ordering.TheVariants.{Less, Equal, Greater}
 use Rattle.std.specs.Ordering.{nat_cmp, ordering_then}

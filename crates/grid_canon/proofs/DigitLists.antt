@@ -1,5 +1,6 @@
 -- Numbers of 64 bits as lists of digits: with one digit more, cut at a place, and with one digit put in.
-use Rattle.std.proofs.Common.{◌≡◌, ◌<◌, ◌≤◌, ◌+◌, ◌-◌, ◌*◌, ◌/◌, ◌%◌, ◌^◌, ◌++◌, ◌∷◌, ◌∙◌, ℕ, suc, List, length, get_or, take, drop, add-one, arith, sym, ap, ap₂, subst}
+use Rattle.std.proofs.Common.{◌≡◌, ◌<◌, ◌≤◌, ◌+◌, ◌-◌, ◌*◌, ◌/◌, ◌%◌, ◌^◌, ◌++◌, ◌∷◌, ◌∙◌, ℕ, suc, List, length, get_or, take, drop, add-one, arith, sym, ap}
+use Rattle.std.proofs.Common.{ap₂, subst}
 use Rattle.std.specs.List.{insert, remove}
 use Rattle.std.proofs.Math.Nat.{pow-succ', pow-le-pow_right}
 use Rattle.std.proofs.lemmas.Nat.{pow-add, mul-add-lt, shl_whole, shr_high}

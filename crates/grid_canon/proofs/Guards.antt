@@ -1,5 +1,6 @@
 -- All digits of a number changed at once, with the highest bit of each digit as its guard.
-use Rattle.std.proofs.Common.{◌≡◌, ◌<◌, ◌≤◌, ◌+◌, ◌-◌, ◌*◌, ◌/◌, ◌^◌, ◌∷◌, [], ◌∙◌, ℕ, zero, suc, List, All, length, get_or, map, replicate, bit_and, nat_lt, arith, refl, sym, ap, ap₂, subst, inl, inr, zero-add}
+use Rattle.std.proofs.Common.{◌≡◌, ◌<◌, ◌≤◌, ◌+◌, ◌-◌, ◌*◌, ◌/◌, ◌^◌, ◌∷◌, [], ◌∙◌, ℕ, zero, suc, List, All, length, get_or, map, replicate, bit_and, nat_lt}
+use Rattle.std.proofs.Common.{arith, refl, sym, ap, ap₂, subst, inl, inr, zero-add}
 use Rattle.std.specs.Prelude.{if◌then◌else◌}
 use Rattle.std.specs.List.{range_with_len}
 use Rattle.std.proofs.Math.Nat.{pow-succ', pow-le-pow_right, mul-le-mul_right}

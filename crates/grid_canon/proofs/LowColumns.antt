@@ -1,5 +1,6 @@
 -- The marked columns of a short grid: only among them is the least translate.
-use Rattle.std.proofs.Common.{◌≡◌, ◌≢◌, ◌<◌, ◌≤◌, ◌+◌, ◌-◌, ◌*◌, ◌/◌, ◌%◌, ◌^◌, ◌∷◌, [], ◌∙◌, ℕ, zero, suc, List, length, get_or, map, drop, arith, refl, sym, ap, ap₂, subst, inl, inr, zero-add}
+use Rattle.std.proofs.Common.{◌≡◌, ◌≢◌, ◌<◌, ◌≤◌, ◌+◌, ◌-◌, ◌*◌, ◌/◌, ◌%◌, ◌^◌, ◌∷◌, [], ◌∙◌, ℕ, zero, suc, List, length, get_or, map, drop, arith, refl, sym}
+use Rattle.std.proofs.Common.{ap, ap₂, subst, inl, inr, zero-add}
 use Rattle.std.specs.List.{All, range_with_len}
 use Rattle.std.specs.declared.cmp.Ordering.TheVariants.{Less}
 use Rattle.std.proofs.Math.Nat.{pow-succ', pow-le-pow_right, mul-le-mul_right, mod-eq_of_lt}

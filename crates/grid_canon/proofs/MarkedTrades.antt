@@ -1,5 +1,6 @@
 -- The trades of a short grid, by the marks of its columns or of its rows.
-use Rattle.std.proofs.Common.{◌≡◌, ◌<◌, ◌≤◌, ◌∙◌, ◌==◌, ◌||◌, ◌++◌, ℕ, List, Bool, true, false, not, nat_lt, bit_or, bit_xor, All, length, get_or, map, take, drop, arith, refl, sym, ap, ap₂, zero-add, ◌^◌}
+use Rattle.std.proofs.Common.{◌≡◌, ◌<◌, ◌≤◌, ◌∙◌, ◌==◌, ◌||◌, ◌++◌, ℕ, List, Bool, true, false, not, nat_lt, bit_or, bit_xor, All, length, get_or, map, take}
+use Rattle.std.proofs.Common.{drop, arith, refl, sym, ap, ap₂, zero-add, ◌^◌}
 use Rattle.std.specs.Prelude.{if◌then◌else◌}
 use Rattle.std.specs.List.{range_with_len}
 use Rattle.std.specs.Option.{is_none}
@@ -13,7 +14,8 @@ use Rattle.grid_moves.specs.Shift.{shifted}
 use Rattle.grid_moves.proofs.Shifted.{shifted_below}
 use Rattle.grid_canon.specs.declared.digits.TheConstants.{SHORT_BASE, MAX_SHORT_SIZE, GUARD}
 use Rattle.grid_canon.specs.Digits.{short_number, digits, lowered_each, mark}
-use Rattle.grid_canon.specs.ShortTrades.{Trades, trades_where, trades_of, next, is_marked, AreMasks, ArePairs, digit_span, one_alone, apart_from, touch_once_from, counted_trades}
+use Rattle.grid_canon.specs.ShortTrades.{Trades, trades_where, trades_of, next, is_marked, AreMasks, ArePairs, digit_span, one_alone, apart_from}
+use Rattle.grid_canon.specs.ShortTrades.{touch_once_from, counted_trades}
 use Rattle.grid_canon.proofs.Guards.{digit_of}
 use Rattle.grid_canon.proofs.Placed.{HasDigits, all_digits, each_digit, cut_digits, lowered_digits_each, next_below, or_fits, xor_fits, digit-or, digit-xor}
 use Rattle.grid_canon.proofs.CountedEnds.{apart_counted, touch_counted}

@@ -1,5 +1,6 @@
 -- Numbers by their digits, place by place.
-use Rattle.std.proofs.Common.{◌≢◌, ◌++◌, take, drop, bit_and, ◌≡◌, ◌<◌, ◌≤◌, ◌+◌, ◌-◌, ◌*◌, ◌/◌, ◌%◌, ◌^◌, ◌∙◌, ℕ, zero, suc, List, All, length, get_or, map, set, bit_or, bit_xor, arith, refl, sym, ap, ap₂, subst, inl, inr, zero-add}
+use Rattle.std.proofs.Common.{◌≢◌, ◌++◌, take, drop, bit_and, ◌≡◌, ◌<◌, ◌≤◌, ◌+◌, ◌-◌, ◌*◌, ◌/◌, ◌%◌, ◌^◌, ◌∙◌, ℕ, zero, suc, List, All, length, get_or, map}
+use Rattle.std.proofs.Common.{set, bit_or, bit_xor, arith, refl, sym, ap, ap₂, subst, inl, inr, zero-add}
 use Rattle.std.specs.List.{range_with_len}
 use Rattle.std.proofs.Math.Nat.{pow-le-pow_right, mod-eq_of_lt}
 use Rattle.std.proofs.lemmas.Bool.{cases_lt, cases_eq}

@@ -1,5 +1,6 @@
 -- Worked examples: the two trefoils, a diagram of four columns, keys, and tidied lists.
-use Rattle.std.proofs.Common.{◌≡◌, ◌<◌, ◌≤◌, ◌+◌, ◌-◌, ◌*◌, ◌^◌, ◌∷◌, ◌∙◌, ◌⊎◌, ◌==◌, ◌&&◌, ◌||◌, not, [], ℕ, List, Bool, true, false, length, get_or, replicate, nat_lt, nat_le, arith, sym, refl, ap, subst, inl, inr, zero-add}
+use Rattle.std.proofs.Common.{◌≡◌, ◌<◌, ◌≤◌, ◌+◌, ◌-◌, ◌*◌, ◌^◌, ◌∷◌, ◌∙◌, ◌⊎◌, ◌==◌, ◌&&◌, ◌||◌, not, [], ℕ, List, Bool, true, false, length, get_or}
+use Rattle.std.proofs.Common.{replicate, nat_lt, nat_le, arith, sym, refl, ap, subst, inl, inr, zero-add}
 use Rattle.std.specs.List.{Contains, list_all, range_with_len}
 use Rattle.std.specs.Ordering.{is_le, is_eq}
 use Rattle.std.proofs.lemmas.Bool.{ltb-true, eqb-true, leb-true, or_cases, and_parts, not-true}
@@ -9,7 +10,8 @@ use Rattle.grid_core.specs.Diagram.{Diagram, size}
 use Rattle.grid_core.specs.Trefoils.{right_trefoil, left_trefoil}
 use Rattle.grid_core.specs.declared.mark.Kind.TheVariants.{Cross}
 use Rattle.grid_core.specs.declared.mark.Corner.TheVariants.{LowLeft}
-use Rattle.grid_moves.specs.declared.step.Move.TheVariants.{ShiftColumns, ShiftRows, ExchangeColumns, ExchangeRows, SlideColumns, SlideRows, Stabilise, Destabilise}
+use Rattle.grid_moves.specs.declared.step.Move.TheVariants.{ShiftColumns, ShiftRows, ExchangeColumns, ExchangeRows, SlideColumns, SlideRows, Stabilise}
+use Rattle.grid_moves.specs.declared.step.Move.TheVariants.{Destabilise}
 use Rattle.grid_canon.specs.Tidied.{tidied}
 use Rattle.grid_keys.specs.declared.least_form.LeastForm.{LeastForm}
 use Rattle.grid_keys.specs.Translation.{translate, translates}

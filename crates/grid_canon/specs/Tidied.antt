@@ -1,7 +1,8 @@
 -- A list of moves, tidied: each run of shifts leads to one translate, and becomes the shifts to it.
 use Rattle.std.specs.Prelude.{◌+◌, ◌-◌, ◌%◌, ◌++◌, ℕ, List, [], ◌∷◌}
 use Rattle.grid_moves.specs.declared.step.Move.{Move}
-use Rattle.grid_moves.specs.declared.step.Move.TheVariants.{ShiftColumns, ShiftRows, ExchangeColumns, ExchangeRows, SlideColumns, SlideRows, Stabilise, Destabilise}
+use Rattle.grid_moves.specs.declared.step.Move.TheVariants.{ShiftColumns, ShiftRows, ExchangeColumns, ExchangeRows, SlideColumns, SlideRows, Stabilise}
+use Rattle.grid_moves.specs.declared.step.Move.TheVariants.{Destabilise}
 use Rattle.grid_keys.specs.Shifts.{shift_moves}
 
 -- from n columns on, behind shifts of columns by a and of rows by b that are not written yet: in each run of shifts those of columns

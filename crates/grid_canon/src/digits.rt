@@ -128,7 +128,7 @@ pub(crate) fn below(value: u64, other: u64, size: u32) -> u64
 }
 
 /// The guards of the digits that are below some bound, the least one from 2 on for which there are any: lowered by it with their guards,
-/// these digits lack them. That it is the least bound only spares work: no clause says it.
+/// these digits lack them. That it is the least bound only spares work, and is not proved.
 pub(crate) fn low_digits(value: u64, size: u32) -> u64
     requires least { 2 ≤ size }
     requires most { size ≤ MAX_SHORT_SIZE }
@@ -147,7 +147,7 @@ pub(crate) fn low_digits(value: u64, size: u32) -> u64
     guards
 }
 
-/// How many digits stand behind the first one that isn't 0.
+/// How many digits stand after the first one that isn't 0.
 pub(crate) fn digits_behind(value: u64) -> u32
     requires { 0 < value }
     ensures least { SHORT_BASE ^ result ≤ value }
@@ -194,7 +194,7 @@ pub(crate) fn without_digit(value: u64, place: u32, size: u32) -> u64
     ((front >> SHORT_BITS) << behind) + (value - (front << behind))
 }
 
-/// Each digit one lower that is above a row: lowered by the row behind it with its guard, it has it still.
+/// Each digit one lower that is above a row: lowered by the row after it with its guard, it has it still.
 pub(crate) fn dropped(value: u64, row: u64, size: u32) -> u64
     requires most { size ≤ MAX_SHORT_SIZE }
     requires value { value < SHORT_BASE ^ size }
@@ -231,7 +231,7 @@ pub(crate) fn swapped(value: u64, place: u32, size: u32) -> u64
 }
 
 /// Each digit after two neighbouring rows have exchanged their numbers: as a digit, what it is when lifted at the first of them, and what
-/// it is when lifted behind both, together are the new digit and twice what it is when lifted at the second.
+/// it is when lifted after both, together are the new digit and twice what it is when lifted at the second.
 pub(crate) fn exchanged(value: u64, row: u64, size: u32) -> u64
     requires most { size < MAX_SHORT_SIZE }
     requires value { value < SHORT_BASE ^ size }
@@ -243,7 +243,7 @@ pub(crate) fn exchanged(value: u64, row: u64, size: u32) -> u64
     value + both - 2 * lifted(value, row + 1, size)
 }
 
-/// The digits with one more in a place where 0 stands.
+/// The digits with one more at a place that has 0.
 fn filled(value: u64, digit: u64, place: u32, size: u32) -> u64
     requires place { place < size }
     requires most { size ≤ MAX_SHORT_SIZE }
@@ -256,7 +256,7 @@ fn filled(value: u64, digit: u64, place: u32, size: u32) -> u64
     value + (digit << (SHORT_BITS * (size - place - 1)))
 }
 
-/// By number the place where it stands among the digits, each number below the size being one of them.
+/// By number its place among the digits, each number below the size being one of them.
 pub(crate) fn places(value: u64, size: u32) -> u64
     requires most { size ≤ MAX_SHORT_SIZE }
     requires value { value < SHORT_BASE ^ size }

@@ -11,9 +11,9 @@ ghost use Rattle.grid_canon.specs.Tidied.{tidied, column_sum, row_sum};
 
 use grid_moves::Move;
 
-/// A tidied list is tidy. It leads from a grid where the list leads, within each cap within which the list does, and has the same moves
+/// A tidied list is tidy. It leads from a grid to where the list leads, within each cap within which the list does, and has the same moves
 /// that are no shifts, in order: of what is written only shifts change. On n columns a run of shifts becomes the shift of columns by the
-/// sum of those of columns, mod n, and then that of rows, where 0 is left out; behind the move that ends the run it begins anew.
+/// sum of those of columns, mod n, and then that of rows, where 0 is left out; after the move that ends the run a new one begins.
 pub fn a_tidied_list_leads_where_the_list_leads()
     ensures tidy { (n : ℕ) (moves : List Move) → is_tidy (tidied n 0 0 moves) ≡ true }
     ensures joins { (d e : Diagram) (moves : List Move) → IsGrid d → Joins d moves e → Joins d (tidied (size d) 0 0 moves) e }

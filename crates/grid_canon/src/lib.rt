@@ -1,6 +1,6 @@
 //! One name for all translates of a grid diagram: the least of them with the shifts that reach it, and its key. Lists of moves, tidied.
 //! Two diagrams are translates of each other exactly where their canonical forms have one key. The rows of a grid of few columns are the
-//! digits of two numbers: one step of arithmetic moves all marks, finds the least translate, or tells of all neighbours which may trade places.
+//! digits of two numbers: one step of arithmetic moves all marks, finds the least translate, or finds which neighbours may trade places.
 #![tactic(auto)]
 
 mod canonical_form;

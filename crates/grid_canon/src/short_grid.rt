@@ -184,8 +184,8 @@ impl ShortGrid {
         trades_of(places(self.crosses, size), places(self.rings, size), size)
     }
 
-    /// The key of the canonical form with its least shifts, as `canonical_key` answers it for a grid. Takes no memory. It is put into its
-    /// callers, which so write the key into its place at once.
+    /// The key of the canonical form with its least shifts, as `canonical_key` answers it for a grid. Takes no memory. It is inlined,
+    /// so that its callers write the key into its place at once.
     #[inline(always)]
     pub fn canonical_key(&self) -> LeastKey
         ensures { IsLeastKey self.now result }

@@ -29,7 +29,7 @@ impl Model for ShortTrades {
 }
 
 impl ShortTrades {
-    /// Whether number c, below the number of columns or rows, may be exchanged with the next one; of the last and the first, whether they may
+    /// Whether number c, below the number of columns or rows, may be exchanged with the next one; for the last, whether it may be with the first
     /// after a shift by 1.
     pub fn may_exchange(&self, c: u8) -> bool
         requires { c < length self.now.exchange }
@@ -60,7 +60,7 @@ pub(crate) fn trades_of(crosses: u64, rings: u64, size: u32) -> ShortTrades
 }
 
 /// The trades by the ends as they are counted from the first one. Two spans that share no end may be exchanged where both ends of the next one
-/// come before the other end, or both behind it; where exactly one is shared, they slide.
+/// come before the other end, or both after it; where exactly one is shared, they slide.
 fn trades_from(end: u64, cross: u64, ring: u64, size: u32) -> ShortTrades
     requires most { size ≤ MAX_SHORT_SIZE }
     requires end { end < SHORT_BASE ^ size }

@@ -15,8 +15,8 @@ use grid_moves::Move;
 use memory_core::OutOfMemory;
 use std::alloc::Global;
 
-/// A tidy list that leads from a grid where these moves lead, which can be made from it: in each run of shifts those of columns are added,
-/// and those of rows, round the circle; the shift of columns stands first, and a shift by 0 is left out. No diagram on the way is larger
+/// A tidy list that leads from a grid to where these moves lead, which must be legal from it: in each run of shifts those of columns are added,
+/// and those of rows, round the circle; the shift of columns comes first, and a shift by 0 is left out. No diagram on the way is larger
 /// than the largest on the way of the given moves.
 pub fn tidy(alloc: Global, first: &Grid, steps: &[Move]) -> Result<Vec<Move>, OutOfMemory>
     requires { (e : Diagram) × Joins first.now steps.now e }
@@ -48,7 +48,7 @@ struct Run {
     rows: u8,
 }
 
-/// The run after one more move: a shift is added, any other move is written behind the shifts.
+/// The run after one more move: a shift is added, any other move is written after the shifts.
 fn taken(list: &mut Vec<Move>, run: Run, step: Move) -> Result<Run, OutOfMemory>
     requires legal { (d : Diagram) × ((e : Diagram) × (Step d step e × (size d ≡ run.size))) }
     requires columns { run.columns < run.size }
@@ -78,7 +78,7 @@ fn taken(list: &mut Vec<Move>, run: Run, step: Move) -> Result<Run, OutOfMemory>
     }
 }
 
-/// The shifts of a run and a move that is no shift, written; behind it there is no shift.
+/// The shifts of a run and a move that is no shift, written; after it there is no shift.
 fn written(list: &mut Vec<Move>, run: Run, step: Move) -> Result<Run, OutOfMemory>
     requires legal { (d : Diagram) × ((e : Diagram) × (Step d step e × (size d ≡ run.size))) }
     requires other { is_shift step ≡ false }

@@ -1,5 +1,6 @@
 -- Brief keys: no two stand for one key, and grids of few columns have one.
-use Rattle.std.proofs.Common.{◌≡◌, ◌<◌, ◌≤◌, ◌-◌, ◌+◌, ◌*◌, ◌/◌, ◌%◌, ◌^◌, ◌==◌, ◌∷◌, ◌∙◌, ℕ, Bool, true, false, List, arith, refl, ap, ap₂, get_or, replicate, take, length}
+use Rattle.std.proofs.Common.{◌≡◌, ◌<◌, ◌≤◌, ◌-◌, ◌+◌, ◌*◌, ◌/◌, ◌%◌, ◌^◌, ◌==◌, ◌∷◌, ◌∙◌, ℕ, Bool, true, false, List, arith, refl, ap, ap₂, get_or, replicate}
+use Rattle.std.proofs.Common.{take, length}
 use Rattle.std.proofs.Math.Nat.{pow-le-pow_right}
 use Rattle.std.proofs.lemmas.Bool.{and_from, and_parts, eqb-true, eq-eqb}
 use Rattle.std.proofs.lemmas.Nat.{div-mul-add, mod-mul-add}

@@ -1,5 +1,6 @@
 -- The least translate has an X in its lower left cell.
-use Rattle.std.proofs.Common.{◌≡◌, ◌≢◌, ◌<◌, ◌≤◌, ◌+◌, ◌%◌, ◌∙◌, ◌⊎◌, ℕ, zero, suc, List, [], ◌∷◌, length, get_or, map, arith, sym, refl, ap, ap₂, subst, inl, inr, zero-add}
+use Rattle.std.proofs.Common.{◌≡◌, ◌≢◌, ◌<◌, ◌≤◌, ◌+◌, ◌%◌, ◌∙◌, ◌⊎◌, ℕ, zero, suc, List, [], ◌∷◌, length, get_or, map, arith, sym, refl, ap, ap₂, subst, inl}
+use Rattle.std.proofs.Common.{inr, zero-add}
 use Rattle.std.specs.List.{All, Contains, range_with_len, flat_map}
 use Rattle.std.specs.declared.cmp.Ordering.{Ordering}
 use Rattle.std.specs.declared.cmp.Ordering.TheVariants.{Less, Equal, Greater}
@@ -21,7 +22,8 @@ use Rattle.grid_keys.specs.Order.{compare, IsAtMost}
 use Rattle.grid_keys.specs.CanonicalForm.{IsLeastForm}
 use Rattle.grid_keys.specs.Cornered.{cornered, IsFirstLeast}
 use Rattle.grid_keys.proofs.Translated.{origin, origin_cases, size-translate, row_of-translate}
-use Rattle.grid_keys.proofs.Ordered.{nat_cmp_less, nat_cmp_greater, slice_cmp_at, at_most_from_less, at_most_self, less_then_at_most, at_most_from_not_less, less_not_back, then_first}
+use Rattle.grid_keys.proofs.Ordered.{nat_cmp_less, nat_cmp_greater, slice_cmp_at, at_most_from_less, at_most_self, less_then_at_most, at_most_from_not_less}
+use Rattle.grid_keys.proofs.Ordered.{less_not_back, then_first}
 
 -- the list of all translates
 flat_map_all : {X A : Type 0} (P : A → Type 0) (f : X → List A) (xs : List X) → All (λ x. All P (f x)) xs → All P (flat_map f xs)

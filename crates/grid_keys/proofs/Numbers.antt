@@ -1,5 +1,6 @@
 -- Numbers by their digits.
-use Rattle.std.proofs.Common.{◌≡◌, ◌<◌, ◌≤◌, ◌+◌, ◌-◌, ◌*◌, ◌/◌, ◌%◌, ◌^◌, ◌++◌, ◌∷◌, [], ◌∙◌, ℕ, List, All, length, get_or, take, drop, map, replicate, arith, sym, refl, ap, ap₂, subst, length-append, add-one, zero-add}
+use Rattle.std.proofs.Common.{◌≡◌, ◌<◌, ◌≤◌, ◌+◌, ◌-◌, ◌*◌, ◌/◌, ◌%◌, ◌^◌, ◌++◌, ◌∷◌, [], ◌∙◌, ℕ, List, All, length, get_or, take, drop, map, replicate, arith}
+use Rattle.std.proofs.Common.{sym, refl, ap, ap₂, subst, length-append, add-one, zero-add}
 use Rattle.std.proofs.Math.Nat.{pow-le-pow_right}
 use Rattle.std.proofs.lemmas.Nat.{div-mul-add, mod-mul-add}
 use Rattle.std.proofs.lemmas.List.{take-append-drop, length-take, length-drop, take_more, map-append, length-replicate}

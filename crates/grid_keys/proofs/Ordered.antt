@@ -1,5 +1,6 @@
 -- Lists of numbers and diagrams, in lexicographic order.
-use Rattle.std.proofs.Common.{◌≡◌, ◌≢◌, ◌<◌, ◌∙◌, ◌⊎◌, ◌∷◌, [], ◌==◌, ℕ, zero, suc, List, length, get_or, cond, true, false, arith, sym, refl, ap, ap₂, inl, inr}
+use Rattle.std.proofs.Common.{◌≡◌, ◌≢◌, ◌<◌, ◌∙◌, ◌⊎◌, ◌∷◌, [], ◌==◌, ℕ, zero, suc, List, length, get_or, cond, true, false, arith, sym, refl, ap, ap₂, inl}
+use Rattle.std.proofs.Common.{inr}
 use Rattle.std.specs.declared.cmp.Ordering.{Ordering}
 use Rattle.std.specs.declared.cmp.Ordering.TheVariants.{Less, Equal, Greater}
 use Rattle.std.specs.Ordering.{nat_cmp, ordering_then, ordering_reverse, is_le}

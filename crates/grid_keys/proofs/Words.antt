@@ -1,9 +1,11 @@
 -- The words of the rows of a kind.
-use Rattle.std.proofs.Common.{◌≡◌, ◌<◌, ◌≤◌, ◌+◌, ◌-◌, ◌*◌, ◌/◌, ◌%◌, ◌^◌, ◌++◌, ◌∷◌, [], ◌∙◌, ℕ, zero, suc, List, All, length, get_or, take, drop, map, replicate, slice_set, fold, arith, sym, refl, ap, ap₂, inl, inr, length-append, add-one, zero-add, min}
+use Rattle.std.proofs.Common.{◌≡◌, ◌<◌, ◌≤◌, ◌+◌, ◌-◌, ◌*◌, ◌/◌, ◌%◌, ◌^◌, ◌++◌, ◌∷◌, [], ◌∙◌, ℕ, zero, suc, List, All, length, get_or, take, drop, map}
+use Rattle.std.proofs.Common.{replicate, slice_set, fold, arith, sym, refl, ap, ap₂, inl, inr, length-append, add-one, zero-add, min}
 use Rattle.std.proofs.Math.Nat.{mul_comm, mod-eq_of_lt}
 use Rattle.std.proofs.lemmas.Nat.{pow-add, pow_pos, mul-add-lt}
 use Rattle.std.proofs.lemmas.Bool.{cases_lt}
-use Rattle.std.proofs.lemmas.List.{take_all, take_more, take-append-drop, length-take, length-drop, length-replicate, length-map, get_or_append_left, ext_get_or, get_or-map, get_or-take, get_or-drop, drop-drop, get_or-replicate}
+use Rattle.std.proofs.lemmas.List.{take_all, take_more, take-append-drop, length-take, length-drop, length-replicate, length-map, get_or_append_left}
+use Rattle.std.proofs.lemmas.List.{ext_get_or, get_or-map, get_or-take, get_or-drop, drop-drop, get_or-replicate}
 use Rattle.std.proofs.Math.Seq.{get_or-append_right}
 use Rattle.std.proofs.lemmas.List.Elements.{All-take, All-drop, All-append}
 use Rattle.std.proofs.lemmas.List.FromFn.{get_or-range_with_len, length-range_with_len}
@@ -17,7 +19,8 @@ use Rattle.grid_core.specs.declared.grid.TheConstants.{MAX_SIZE}
 use Rattle.grid_keys.specs.Translation.{translated_rows}
 use Rattle.grid_keys.specs.declared.key.TheConstants.{BASE, DIGIT_BITS, WORD_COLUMNS, WORDS}
 use Rattle.grid_keys.specs.Key.{key_number, filled, words, words_of, digit_at}
-use Rattle.grid_keys.proofs.Numbers.{AreDigits, number-below, number-digit, number-filled, number-order, length-filled, filled-digits, base_bits, lowered_rows, slice_cmp-append}
+use Rattle.grid_keys.proofs.Numbers.{AreDigits, number-below, number-digit, number-filled, number-order, length-filled, filled-digits, base_bits, lowered_rows}
+use Rattle.grid_keys.proofs.Numbers.{slice_cmp-append}
 
 -- behind the end of a list nothing is read
 past_end : (xs : List ℕ) (i : ℕ) → length xs ≤ i → get_or xs i 0 ≡ 0

@@ -20,8 +20,8 @@ pub struct BriefKey {
 }
 
 impl BriefKey {
-    /// The brief form of a key: None where a word behind the first of a kind isn't 0, as of grids of more columns, or where the first of the
-    /// Xs is more than its digits, as of no grid.
+    /// The brief form of a key: None if a word after the first of a kind isn't 0, as for grids of more columns, or if the first word of the
+    /// Xs has bits above its digits, as for no grid.
     pub fn of(key: &Packed) -> Option<BriefKey>
         ensures some { IfSome result (λ brief. whole_key brief ≡ key.now) }
         ensures none { IfNone result ((brief : BriefKey) → whole_key brief ≢ key.now) }
@@ -36,7 +36,7 @@ impl BriefKey {
         }
     }
 
-    /// The key whose brief form this is. The size that it says must be below 256, as that of the brief form of any key is.
+    /// The key whose brief form this is. Its size must be below 256, as it is in the brief form of any key.
     pub fn whole(self) -> Packed
         requires { size_of (whole_key self) < 2 ^ 8 }
         ensures { result ≡ whole_key self }

@@ -21,25 +21,25 @@ pub const BASE: u128 = 64;
 /// The base is this power of two: the bits of a digit.
 pub const DIGIT_BITS: u32 = 6;
 
-/// The columns whose rows stand in one word of a key.
+/// How many columns have their rows in one word of a key.
 pub const WORD_COLUMNS: usize = 16;
 
-/// The words of a key for the rows of a kind: as many as have a column for each of the greatest size.
+/// How many words of a key the rows of a kind take: enough for the greatest size.
 pub const WORDS: usize = (MAX_SIZE + WORD_COLUMNS - 1) / WORD_COLUMNS;
 
 /// The bits of a word above its digits.
 const SPARE_BITS: u32 = u128::BITS - DIGIT_BITS * WORD_COLUMNS as u32;
 
-/// The bits of a word behind a digit that stands on top.
+/// The bits of a word below its highest digit.
 const BITS_BEHIND_TOP: u32 = u128::BITS - DIGIT_BITS;
 
-/// The key of a grid. Keys are equal exactly for equal grids; they are ordered by size, then as the Xs, then as the Os:
-/// so the fields stand in this order.
+/// The key of a grid. Keys are equal exactly for equal grids; they are ordered by size, then by the Xs, then by the Os,
+/// so the fields are in this order.
 #[derive(Clone, Copy, Debug, Default, PartialEq, Eq, PartialOrd, Ord)]
 pub struct Packed {
     /// The size of the grid.
     pub size: u8,
-    /// The words with the rows of the Xs by column as their digits, the first column's as the highest, filled with 0 behind the last column's.
+    /// The words with the rows of the Xs by column as their digits, the first column's as the highest, filled with 0 after the last column's.
     pub x: [u128; WORDS],
     /// The words of the Os, likewise.
     pub o: [u128; WORDS],
@@ -54,8 +54,8 @@ impl Packed {
     }
 }
 
-/// Hashed are the size and the first word of each kind, which tell grids of up to `WORD_COLUMNS` columns apart, and of larger grids for each
-/// kind one number more that all words are counted into.
+/// Hashes the size and the first word of each kind, which distinguish grids of up to `WORD_COLUMNS` columns, and for larger grids one more
+/// number for each kind, which depends on all words.
 impl Hash for Packed {
     ghost hash_input = { λ p. fed.u8 p.size ++ fed.u128 (slice_index p.x 0) ++ fed.u128 (slice_index p.o 0) ++ more_hashed p };
 
@@ -124,7 +124,7 @@ pub fn unpack(key: Packed) -> Option<Grid>
     }
 }
 
-/// The grid that has this key, which must be that of a grid: `unpack` is the test. Takes no memory.
+/// The grid that has this key, which must be that of a grid: `unpack` checks that. Takes no memory.
 pub fn grid_of(key: Packed) -> Grid
     requires { (d : Diagram) × IsKeyOf key d }
     ensures { (d : Diagram) → IsKeyOf key d → result ≡ d }

@@ -90,7 +90,7 @@ pub fn a_key_names_one_grid()
     ensures { (d e : Diagram) → IsGrid d → IsGrid e → (key_of d ≡ key_of e) ↔ (d ≡ e) }
 {}
 
-/// No two brief keys stand for one key, and the key of each grid of at most `WORD_COLUMNS` columns has one.
+/// No two brief keys are of one key, and the key of each grid of at most `WORD_COLUMNS` columns has one.
 pub fn a_key_has_at_most_one_brief_key()
     ensures one { (a b : BriefKey) → whole_key a ≡ whole_key b → a ≡ b }
     ensures few { (d : Diagram) → IsGrid d → size d ≤ WORD_COLUMNS → (brief : BriefKey) × (whole_key brief ≡ key_of d) }

@@ -18,7 +18,7 @@ pub struct LeastForm {
 }
 
 impl LeastForm {
-    /// The same form again. Takes no memory.
+    /// A copy of the form. Takes no memory.
     pub fn copy(&self) -> Self
         ensures { result ≡ self.now }
     {

@@ -6,8 +6,8 @@ ghost use Rattle.grid_keys.specs.Shifts.{needed_column_shift, needed_row_shift, 
 use grid_moves::Move;
 use memory_core::OutOfMemory;
 
-/// Puts the shift of columns and that of rows at the end of a list, where a shift by 0 is left out. Where there is no memory for both,
-/// the first of them may stand behind the old list, and nothing else.
+/// Puts the shift of columns and that of rows at the end of a list, but no shift by 0. If there is no memory for both,
+/// the list may have got the first of them, and nothing else.
 #[tactic(auto, using(grid_moves::proofs::PutParts::on_err, crate::proofs::PutShifts::shifts_ahead, crate::proofs::PutShifts::shifts_last))]
 pub fn push_shifts(list: &mut Vec<Move>, columns: u8, rows: u8) -> Result<(), OutOfMemory>
     ensures list { IfOk result (λ _. list.new.items ≡ list.old.items ++ shift_moves columns rows) }
@@ -17,8 +17,8 @@ pub fn push_shifts(list: &mut Vec<Move>, columns: u8, rows: u8) -> Result<(), Ou
     push_rows(list, rows)
 }
 
-/// Puts the same shifts at the end of a list, the last one first. Where there is no memory for both, the one put first may stand
-/// behind the old list, and nothing else.
+/// Puts the same shifts at the end of a list, the last one first. If there is no memory for both, the list may have got
+/// the one put first, and nothing else.
 #[tactic(auto, using(grid_moves::proofs::PutParts::on_err, crate::proofs::PutShifts::back_ahead, crate::proofs::PutShifts::back_last))]
 pub fn push_shifts_back(list: &mut Vec<Move>, columns: u8, rows: u8) -> Result<(), OutOfMemory>
     ensures list { IfOk result (λ _. list.new.items ≡ list.old.items ++ reverse (shift_moves columns rows)) }

@@ -15,7 +15,7 @@ pub fn a_grid_is_what_has_no_fault()
     ensures { (x o : List ℕ) → (first_grid_fault x o ≡ None) ↔ IsGrid (record { x = x; o = o }) }
 {}
 
-/// A grid said by its lists is a grid said by its marks.
+/// The definition of a grid by its lists agrees with that by its marks.
 pub fn a_grid_by_its_marks()
     ensures { (d : Diagram) → IsGrid d ↔ IsGridByMarks d }
 {}

@@ -13,7 +13,8 @@ use Rattle.grid_moves.specs.DoubleRows.{column_in_new_row, double_row, column_in
 use Rattle.grid_moves.specs.Stabilisation.{Stabilises}
 use Rattle.grid_moves.specs.Destabilisation.{marks_in_block}
 use Rattle.grid_moves.specs.Step.{Step}
-use Rattle.grid_moves.proofs.Widened.{Widened, place_same, place_other, lifted_low, lifted_high, right_small, above_small, kinds, stabilises_from_widened, widened_along}
+use Rattle.grid_moves.proofs.Widened.{Widened, place_same, place_other, lifted_low, lifted_high, right_small, above_small, kinds, stabilises_from_widened}
+use Rattle.grid_moves.proofs.Widened.{widened_along}
 use Rattle.grid_moves.proofs.WidenedGrids.{narrowed, narrowed-widened, narrowed-lengths, narrowed_grid}
 use Rattle.grid_moves.proofs.Stabilised.{columns_in_new_row-beside}
 use Rattle.grid_moves.proofs.Blocks.{IsBlock, block_shape, double_row_is, column_in_double_row_is}

@@ -2,11 +2,13 @@
 use Rattle.std.proofs.Common.{◌-◌, ◌++◌, ◌∷◌, [], List, refl, sym}
 use Rattle.grid_core.specs.Diagram.{Diagram, size, row_of}
 use Rattle.grid_moves.specs.declared.step.Move.{Move}
-use Rattle.grid_moves.specs.declared.step.Move.TheVariants.{ShiftColumns, ShiftRows, ExchangeColumns, ExchangeRows, SlideColumns, SlideRows, Stabilise, Destabilise}
+use Rattle.grid_moves.specs.declared.step.Move.TheVariants.{ShiftColumns, ShiftRows, ExchangeColumns, ExchangeRows, SlideColumns, SlideRows, Stabilise}
+use Rattle.grid_moves.specs.declared.step.Move.TheVariants.{Destabilise}
 use Rattle.grid_moves.specs.BlockMarks.{block_kind, block_corner}
 use Rattle.grid_moves.specs.Step.{Step}
 use Rattle.grid_moves.specs.Joining.{Joins, Equivalent}
-use Rattle.grid_moves.proofs.Undone.{shift_columns_back, shift_rows_back, exchange_columns_back, exchange_rows_back, slide_columns_back, slide_rows_back, stabilise_back, destabilise_back}
+use Rattle.grid_moves.proofs.Undone.{shift_columns_back, shift_rows_back, exchange_columns_back, exchange_rows_back, slide_columns_back, slide_rows_back}
+use Rattle.grid_moves.proofs.Undone.{stabilise_back, destabilise_back}
 use Rattle.grid_moves.proofs.Joined.{joins_append}
 
 -- each step has a step back

@@ -1,5 +1,6 @@
 -- A step has one result, and is there exactly where the move has no fault.
-use Rattle.std.proofs.Common.{◌≡◌, ◌<◌, ◌+◌, ◌∙◌, ◌||◌, ◌&&◌, ◌==◌, ℕ, Bool, true, false, cond, nat_lt, arith, sym, refl, ap, Option, Some, None, Result, Ok, Err, OnOk}
+use Rattle.std.proofs.Common.{◌≡◌, ◌<◌, ◌+◌, ◌∙◌, ◌||◌, ◌&&◌, ◌==◌, ℕ, Bool, true, false, cond, nat_lt, arith, sym, refl, ap, Option, Some, None, Result, Ok}
+use Rattle.std.proofs.Common.{Err, OnOk}
 use Rattle.std.specs.Result.{result_err}
 use Rattle.std.proofs.lemmas.Bool.{lt-ltb, eq-eqb, ltb-true, eqb-true, and_parts, and_from, cond-true, cond-false}
 use Rattle.grid_core.specs.declared.grid.TheConstants.{MAX_SIZE}
@@ -11,7 +12,8 @@ use Rattle.grid_core.specs.Span.{share_an_end, are_disjoint, are_nested, share_b
 use Rattle.grid_core.specs.Parts.{column_span, ends}
 use Rattle.grid_core.specs.Corners.{corner_row}
 use Rattle.grid_moves.specs.declared.step.Move.{Move}
-use Rattle.grid_moves.specs.declared.step.Move.TheVariants.{ShiftColumns, ShiftRows, ExchangeColumns, ExchangeRows, SlideColumns, SlideRows, Stabilise, Destabilise}
+use Rattle.grid_moves.specs.declared.step.Move.TheVariants.{ShiftColumns, ShiftRows, ExchangeColumns, ExchangeRows, SlideColumns, SlideRows, Stabilise}
+use Rattle.grid_moves.specs.declared.step.Move.TheVariants.{Destabilise}
 use Rattle.grid_moves.specs.declared.step.MoveFault.{MoveFault}
 use Rattle.grid_moves.specs.declared.step.MoveFault.TheVariants.{Range, Touching, Interleaved, Block, Full, Apart}
 use Rattle.grid_moves.specs.Renumbered.{unchanged}

@@ -1,5 +1,6 @@
 -- A list of moves leads to one diagram, or stops at one place.
-use Rattle.std.proofs.Common.{◌≡◌, ◌∙◌, ◌⊎◌, inl, inr, ◌∷◌, [], ℕ, zero, suc, List, Option, Some, None, Result, Ok, Err, take, slice_get, refl, sym, subst, ap, ap₂}
+use Rattle.std.proofs.Common.{◌≡◌, ◌∙◌, ◌⊎◌, inl, inr, ◌∷◌, [], ℕ, zero, suc, List, Option, Some, None, Result, Ok, Err, take, slice_get, refl, sym, subst, ap}
+use Rattle.std.proofs.Common.{ap₂}
 use Rattle.grid_core.specs.Diagram.{Diagram, IsGrid}
 use Rattle.grid_moves.specs.declared.step.Move.{Move}
 use Rattle.grid_moves.specs.declared.step.MoveFault.{MoveFault}

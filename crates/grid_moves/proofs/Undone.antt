@@ -10,7 +10,8 @@ use Rattle.grid_core.specs.Span.{span}
 use Rattle.grid_core.specs.Parts.{column_span, column_of, ends}
 use Rattle.grid_core.proofs.Marks.{mark_at, row_below, column_is, column_mark}
 use Rattle.grid_moves.specs.declared.step.Move.{Move}
-use Rattle.grid_moves.specs.declared.step.Move.TheVariants.{ShiftColumns, ShiftRows, ExchangeColumns, ExchangeRows, SlideColumns, SlideRows, Stabilise, Destabilise}
+use Rattle.grid_moves.specs.declared.step.Move.TheVariants.{ShiftColumns, ShiftRows, ExchangeColumns, ExchangeRows, SlideColumns, SlideRows, Stabilise}
+use Rattle.grid_moves.specs.declared.step.Move.TheVariants.{Destabilise}
 use Rattle.grid_moves.specs.Renumbered.{Renumbered, unchanged}
 use Rattle.grid_moves.specs.Shift.{shifted}
 use Rattle.grid_moves.specs.Exchange.{exchanged, MayExchange}

@@ -6,7 +6,8 @@ use Rattle.grid_core.specs.Diagram.{Diagram, size}
 use Rattle.grid_core.specs.Span.{share_an_end, share_both_ends, are_disjoint, are_nested}
 use Rattle.grid_core.specs.Parts.{column_span, ends}
 use Rattle.grid_moves.specs.declared.step.Move.{Move}
-use Rattle.grid_moves.specs.declared.step.Move.TheVariants.{ShiftColumns, ShiftRows, ExchangeColumns, ExchangeRows, SlideColumns, SlideRows, Stabilise, Destabilise}
+use Rattle.grid_moves.specs.declared.step.Move.TheVariants.{ShiftColumns, ShiftRows, ExchangeColumns, ExchangeRows, SlideColumns, SlideRows, Stabilise}
+use Rattle.grid_moves.specs.declared.step.Move.TheVariants.{Destabilise}
 use Rattle.grid_moves.specs.declared.step.MoveFault.{MoveFault}
 use Rattle.grid_moves.specs.declared.step.MoveFault.TheVariants.{Range, Touching, Interleaved, Block, Full, Apart}
 use Rattle.grid_moves.specs.Destabilisation.{marks_in_block}

@@ -1,7 +1,8 @@
 -- What a move makes of the size.
 use Rattle.std.specs.Prelude.{◌+◌, ◌-◌, ℕ}
 use Rattle.grid_moves.specs.declared.step.Move.{Move}
-use Rattle.grid_moves.specs.declared.step.Move.TheVariants.{ShiftColumns, ShiftRows, ExchangeColumns, ExchangeRows, SlideColumns, SlideRows, Stabilise, Destabilise}
+use Rattle.grid_moves.specs.declared.step.Move.TheVariants.{ShiftColumns, ShiftRows, ExchangeColumns, ExchangeRows, SlideColumns, SlideRows, Stabilise}
+use Rattle.grid_moves.specs.declared.step.Move.TheVariants.{Destabilise}
 
 -- the size of the result of a move on a diagram of this size
 abbrev pub size_after : Move → ℕ → ℕ

@@ -82,7 +82,7 @@ pub fn inverse(grid: &Grid, step: Move) -> Move
 }
 
 /// The grid after all moves, one by one, or the place of the first illegal one, counted from 0, and its fault there.
-/// No move at all leads from a grid to itself. Takes no memory.
+/// An empty list leads from a grid to itself. Takes no memory.
 pub fn apply_all(grid: &Grid, steps: &[Move]) -> Result<Grid, (usize, MoveFault)>
     ensures joined { IfOk result (λ e. Joins grid.now steps.now e) }
     ensures stopped { IfErr result (λ f. StopsAt grid.now steps.now f.0 f.1) }

@@ -39,7 +39,7 @@ pub(crate) fn stabilise(
     Ok(())
 }
 
-/// What a stabilisation puts into a grid of size n: one row, and for the marks of each kind one column, whose mark stands in that row.
+/// What a stabilisation puts into a grid of size n: one row, and for the marks of each kind one column, whose mark is in that row.
 #[derive(Clone, Copy, Debug, PartialEq, Eq)]
 pub struct Widening {
     /// The new row, from 0 to n.
@@ -50,7 +50,7 @@ pub struct Widening {
     pub rings: u8,
 }
 
-/// What a stabilisation that is known to be legal puts in: `apply` is the test.
+/// What a stabilisation, which must be legal, puts in: `apply` checks that.
 pub fn widening_of(grid: &Grid, column: u8, kind: Kind, corner: Corner) -> Widening
     requires column { column < size grid.now }
     requires room { size grid.now < MAX_SIZE }
@@ -80,7 +80,7 @@ fn column_in_new_row(column: u8, kind: Kind, corner: Corner, of: Kind) -> u8
     }
 }
 
-/// The rows of a kind, with a new column at a place, whose mark stands in the new row.
+/// The rows of a kind, with a new column at a place, whose mark is in the new row.
 fn widened(grid: &Grid, kind: Kind, place: u8, row: u8) -> Rows
     requires room { size grid.now < MAX_SIZE }
     requires inside { place ≤ size grid.now }

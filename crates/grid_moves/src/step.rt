@@ -28,7 +28,7 @@ pub enum Move {
         corner: Corner,
     },
     /// The block of columns `column`, `column + 1` and rows `row`, `row + 1` holds three marks, and becomes the one
-    /// mark of which a stabilisation makes it.
+    /// mark from which a stabilisation makes it.
     Destabilise {
         column: u8,
         row: u8,

@@ -20,7 +20,7 @@ pub fn is_tidy(steps: &[Move]) -> bool
     true
 }
 
-/// Whether a move may stand in a tidy list directly behind another, or where there is none before it, as the first.
+/// Whether a move may directly follow another in a tidy list, or, where there is none before it, be the first.
 pub fn may_follow(before: Option<Move>, step: Move) -> bool
     ensures { result ≡ may_follow before step }
 {

@@ -11,7 +11,7 @@ use grid_core::Grid;
 use std::alloc::{AllocError, Global};
 
 /// Puts at the end what undoes moves that can be made from a grid: their inverses, from the last move to the first.
-/// Where there is no memory for all of them, the first few may stand behind the old list, and nothing else.
+/// If there is no memory for all of them, the list may have got the first few, and nothing else.
 pub fn push_undone(
     alloc: Global,
     list: &mut Vec<Move>,

@@ -13,7 +13,7 @@ use std::process::ExitCode;
 use std::sync::Wait;
 use std::thread::Threads;
 
-/// Does what the words ask for, by `call`, and ends with the number of its status; with 7 or 10 where no words came. What is wrong is told
+/// Does what the words ask for, by `call`, and ends with the number of its status; with 7 or 10 where no words came. What is wrong is reported
 /// beside it. It is lent memory and threads, and no stream or file but the ports and what `messages` has.
 pub(crate) fn program<T: Threads + Wait + Sync, R: Read + Drop, W: Write + Drop, M: Tell>(
     threads: &T,

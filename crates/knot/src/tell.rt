@@ -7,12 +7,12 @@ use std::alloc::Global;
 use std::fs::Files;
 use std::io::{Read, Write};
 
-/// Tells whoever called what no answer says.
+/// Reports to whoever called what no answer says.
 pub(crate) trait Tell {
-    /// Tells that standard input is read, where the words ask for that.
+    /// Reports that standard input is read, where the words ask for that.
     fn tell_reading(&self, words: &[String]);
 
-    /// Tells what is wrong, where a call ended without an answer.
+    /// Reports what is wrong, where a call ended without an answer.
     fn tell_end<R: Read + Drop, W: Write + Drop>(
         &self,
         words: &[String],
@@ -20,7 +20,7 @@ pub(crate) trait Tell {
         ports: &Ports<StdSource<R>, StdSink<W>>,
     );
 
-    /// Tells why the system gives no words.
+    /// Reports why the system gives no words.
     fn tell_no_words(&self, why: &NoWords);
 }
 

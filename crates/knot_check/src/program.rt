@@ -12,7 +12,7 @@ use std::process::ExitCode;
 /// What is written where words came: none are taken.
 const USAGE: &[u8] = b"usage: knot_check < INPUT\n";
 
-/// Rules on the input, by `call`, where no word follows the program's name. Else it writes the usage line, reads nothing, and ends with 2, or
+/// Rules on the input, by `call`, where no word follows the program's name. Otherwise it writes the usage line, reads nothing, and ends with 2, or
 /// with 6 where the line can't be written. Where no words came it ends with 7 or 10, and neither reads nor writes. It is lent memory, and no
 /// stream but the ports.
 pub(crate) fn program<R: Read + Drop, W: Write + Drop>(

@@ -9,7 +9,7 @@ use crate::sink::Sink;
 
 /// Gives all bytes to the sink, offering the whole rest in each call. Of no bytes it makes no call.
 ///
-/// `Failed` comes only where the sink's count of faults rose in this call, or stands at its last value. Then the
+/// `Failed` comes only where the sink's count of faults rose in this call, or has reached its last value. Then the
 /// first few bytes were appended, and not all. A call that takes nothing of the rest is such a fault.
 pub fn give_all<K: Sink>(sink: &mut K, bytes: &[u8]) -> Result<(), Failed>
     ensures whole { OnOk result (Appends (K.held sink.old) (K.held sink.new) bytes.now) }

@@ -14,7 +14,7 @@ pub const NO_WORDS: u8 = 10;
 /// Why the system gives no words.
 #[derive(Debug, Drop)]
 pub enum NoWords {
-    /// Memory was wanting.
+    /// Memory ran out.
     Memory,
     /// The system has none to give, or one of them isn't UTF-8.
     Refused(io::Error),
@@ -41,7 +41,7 @@ impl fmt::Display for NoWords {
     }
 }
 
-/// The words of the system, of which the first is the program's name. Want of memory is told apart from all other causes.
+/// The words of the system, of which the first is the program's name. That memory ran out is distinguished from all other causes.
 pub fn system_words<R: Env + AllocGlobal>(rt: &R) -> Result<Vec<String>, NoWords> {
     match env::args(rt) {
         Ok(args) => match args.collect(rt.alloc()) {

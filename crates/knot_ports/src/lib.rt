@@ -1,6 +1,6 @@
-//! The edge of a program. Bytes come in from a source and go out to a sink, each of which counts its faults and may decline to tell its bytes.
-//! A whole read passes on all bytes up to the end and a whole write all that it is given, or the answer names the fault, the length or the
-//! want of memory that ended it. Words come from the system, and a call may be made on a stack of stated size.
+//! The edge of a program. Bytes come in from a source and go out to a sink, each of which counts its faults; a contract may not know its bytes.
+//! A whole read passes on all bytes up to the end and a whole write all that it is given, or the answer names what ended it: a fault, the length,
+//! or memory that ran out. Words come from the system, and a call may be made on a stack of stated size.
 #![tactic(auto)]
 
 mod calls;

@@ -11,7 +11,7 @@ use memory_core::OutOfMemory;
 use std::alloc::Global;
 use std::marker::Model;
 
-/// Keeps what it is given as far as it has room, fails at the listed calls, and tells what it holds.
+/// Keeps what it is given as far as it has room, and fails at the listed calls. Contracts know what it holds.
 #[derive(Drop)]
 pub struct MemSink {
     bytes: Vec<u8>,

@@ -9,7 +9,7 @@ use crate::failure::Failed;
 use crate::source::Source;
 use std::marker::Model;
 
-/// Gives its bytes in pieces of one size, fails at the listed calls, and tells what is left.
+/// Gives its bytes in pieces of one size, and fails at the listed calls. Contracts know what is left.
 #[derive(Drop)]
 pub struct MemSource {
     bytes: Vec<u8>,

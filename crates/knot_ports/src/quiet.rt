@@ -9,7 +9,7 @@ use crate::sink::Sink;
 use crate::source::Source;
 use std::marker::Model;
 
-/// Tells its bytes and never fails: its count of faults is the constant 0.
+/// Gives bytes that contracts know, and never fails: its count of faults is the constant 0.
 #[derive(Drop)]
 pub struct QuietSource {
     bytes: Vec<u8>,
@@ -61,7 +61,7 @@ impl Source for QuietSource {
     }
 }
 
-/// Takes every piece whole, keeps and tells nothing, and never fails: its count of faults is the constant 0.
+/// Takes every piece whole, keeps nothing that contracts know, and never fails: its count of faults is the constant 0.
 #[derive(Clone, Copy, Debug)]
 pub struct QuietSink;
 

@@ -23,7 +23,7 @@ const READ_SIZE: usize = 16384;
 
 /// All bytes up to the end of input, which are at most `limit`.
 ///
-/// `Fault` comes only where the source's count of faults rose in this call, or stands at its last value. `TooLong`
+/// `Fault` comes only where the source's count of faults rose in this call, or has reached its last value. `TooLong`
 /// comes exactly where `limit + 1` bytes came. After any of the three ends, the bytes that came are taken from the
 /// source and lost.
 pub fn read_all<S: Source>(alloc: Global, source: &mut S, limit: usize) -> Result<Vec<u8>, ReadEnd>
@@ -35,7 +35,7 @@ pub fn read_all<S: Source>(alloc: Global, source: &mut S, limit: usize) -> Resul
     ensures fault { IsErrOf result ReadEnd.Fault → Rose (S.faults source.old) (S.faults source.new) }
     ensures count { S.faults source.old ≤ S.faults source.new }
 
-    // Where the source tells its bytes, it is they that are answered, and too long means too many of them.
+    // If contracts know the bytes of the source, these are the answer, and too long means too many of them.
     ensures whole { IfOk result (λ v. IfSome (S.left source.old) (λ bytes. v.items ≡ bytes)) }
     ensures too_long { IsErrOf result ReadEnd.TooLong → IfSome (S.left source.old) (λ bytes. limit < length bytes) }
 {

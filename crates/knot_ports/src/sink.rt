@@ -7,15 +7,15 @@ use crate::failure::Failed;
 
 /// Takes bytes and appends them to those that it holds, in pieces of its choice.
 pub trait Sink {
-    /// The bytes that are held, or `None` where the sink doesn't tell them.
+    /// The bytes that are held, or `None` where a contract can't know them.
     ghost held: { Self → Option (List ℕ) };
 
-    /// How many faults were counted. A count never falls, and stands once it is 2^64 - 1.
+    /// How many faults were counted. A count never falls, and stays at 2^64 - 1.
     ghost faults: { Self → ℕ };
 
     /// Appends the first bytes of `piece`, and answers how many they are: 0 of a piece that isn't empty is a fault.
     ///
-    /// A fault comes only where the count of faults rose, or stands at its last value, and then nothing was appended.
+    /// A fault comes only where the count of faults rose, or has reached its last value, and then nothing was appended.
     fn give(&mut self, piece: &[u8]) -> Result<usize, Failed>
         ensures within { IfOk result (λ n. n ≤ length piece.now) }
         ensures bytes { IfOk result (λ n. Appends (held self.old) (held self.new) (take n piece.now)) }

@@ -7,16 +7,16 @@ use crate::failure::Failed;
 
 /// Gives bytes from front to end, in pieces of its choice.
 pub trait Source {
-    /// The bytes that are left, or `None` where the source doesn't tell them.
+    /// The bytes that are left, or `None` where a contract can't know them.
     ghost left: { Self → Option (List ℕ) };
 
-    /// How many faults were counted. A count never falls, and stands once it is 2^64 - 1.
+    /// How many faults were counted. A count never falls, and stays at 2^64 - 1.
     ghost faults: { Self → ℕ };
 
     /// Writes the next bytes into the front of `room`, and answers how many they are: 0 in a room that isn't empty is
-    /// the end of input. What the rest of the room holds afterwards isn't said.
+    /// the end of input. What the rest of the room holds afterwards isn't proved.
     ///
-    /// `Failed` comes only where the count of faults rose, or stands at its last value, and then the same bytes are left.
+    /// `Failed` comes only where the count of faults rose, or has reached its last value, and then the same bytes are left.
     fn take(&mut self, room: &mut [u8]) -> Result<usize, Failed>
         ensures within { IfOk result (λ n. n ≤ length room.old) }
         ensures bytes { IfOk result (λ n. Consumes (left self.old) (left self.new) (take n room.new)) }

@@ -8,7 +8,7 @@ use std::thread::{Builder, Promise, Threads};
 /// How many bytes more than its stack a thread takes, and more: the guard beside the stack, and what the system keeps of the thread.
 const BESIDE: usize = 1_048_576;
 
-/// Nothing is promised of a thread's answer.
+/// Nothing is proved of a thread's answer.
 #[derive(Drop)]
 struct Anything;
 
@@ -16,10 +16,10 @@ impl<T> Promise<T> for Anything {
     ghost kept_by = { λ promise answer. Unit {0} };
 }
 
-/// Calls a closure in a thread of its own, whose stack has so many bytes, and waits for its answer. The stack of the first thread grows as
+/// Calls a closure in a thread of its own, whose stack has `size` bytes, and waits for its answer. The stack of the first thread grows as
 /// it is used, and the system ends the program by a signal where it can't; that of another thread is there from the beginning. Where no
-/// thread can be made, though there is memory for it, the closure is called in the calling thread. Want of memory for the stack is
-/// the one error, and then the closure is not called. No clause says what a thread answers.
+/// thread can be made, though there is memory for it, the closure is called in the calling thread. The only error is that there
+/// is no memory for the stack, and then the closure is not called. What a thread answers is not proved.
 pub fn on_stack<R: Threads, T: Send + Drop + 'static, F: FnOnce() -> T + Send + Drop + 'static>(
     rt: &R,
     alloc: Global,

@@ -1,4 +1,4 @@
-//! The edge: std's readers and writers, which tell what std tells of them. What they keep for messages no clause speaks of.
+//! The edge: std's readers and writers, whose bytes contracts know as far as std specifies them. Nothing is proved of what they keep for messages.
 ghost use Rattle.std.specs.Prelude.{◌≡◌, ◌<◌, ◌≤◌, length, take, IfOk, OnOk, OnErr};
 ghost use Rattle.std.specs.Io.KnownBytes.{Keeps, Appends, Consumes, IsAtEnd};
 ghost use Rattle.knot_ports.specs.Faults.{Rose, one_more};
@@ -15,8 +15,8 @@ use std::marker::Model;
 /// How many bytes of what is written a sink keeps: the line that names a bad line is no longer.
 const SHORT: usize = 40;
 
-/// A source over a reader, whose bytes are those that remain in the reader, where std tells them. It counts the reader's errors, and keeps
-/// the last one, so that it can be told of. A contract sees it as the reader and the count.
+/// A source over a reader, whose bytes are those that remain in the reader, where std specifies them. It counts the reader's errors, and keeps
+/// the last one, so that it can be reported. A contract sees it as the reader and the count.
 #[derive(Drop)]
 pub struct StdSource<R> {
     reader: R,
@@ -84,7 +84,7 @@ impl<R: Read + Drop> Source for StdSource<R> {
     }
 }
 
-/// A sink over a writer, whose bytes are the contents of the writer, where std tells them. It counts the writer's errors and its empty
+/// A sink over a writer, whose bytes are the contents of the writer, where std specifies them. It counts the writer's errors and its empty
 /// writes, and keeps the last error and the first bytes. A contract sees it as the writer and the count.
 #[derive(Drop)]
 pub struct StdSink<W> {

@@ -5,7 +5,7 @@ ghost use Rattle.knot_ports.specs.Status.{status_number};
 
 use std::process::ExitCode;
 
-/// How a call ended: of `knot`, with `Unknown` where `decide` found no evidence; of `seek`, where nothing was found.
+/// How a call ended. `Unknown` means for `knot` that `decide` found no evidence, and for `seek` that nothing was found.
 #[derive(Clone, Copy, Debug, PartialEq, Eq)]
 pub enum Status {
     /// The defined answer was written.
@@ -22,7 +22,7 @@ pub enum Status {
     ReadFault,
     /// The sink failed.
     WriteFault,
-    /// Memory was wanting.
+    /// Memory ran out.
     OutOfMemory,
     /// The evidence does not hold, colours are no colouring, or a move is not legal.
     Rejected,

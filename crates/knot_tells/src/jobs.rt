@@ -3,7 +3,7 @@ ghost use Rattle.std.specs.Prelude.{◌≤◌, length};
 
 use std::fmt;
 
-/// The names, in the order in which they are told.
+/// The names, in the order in which they are listed.
 const NAMES: [&str; 15] = [
     "decide",
     "check",

@@ -1,5 +1,5 @@
-//! What `knot` tells on standard error, in words, beside what it answers.
-//! What it answers is knot_jobs' to say, with a proof; here the words and the input are looked at once more, for whoever wrote them.
+//! What `knot` reports on standard error, in words, beside its answer.
+//! The answer is that of knot_jobs, with a proof; here the words and the input are looked at once more, for whoever wrote them.
 #![tactic(auto)]
 
 mod jobs;

@@ -29,7 +29,7 @@ pub(crate) fn named_in(text: &[u8]) -> Option<Named> {
     Some(Named::Line(line))
 }
 
-/// The number behind these bytes, where the text is one line of both.
+/// The number after these bytes, where the text is one line of both.
 pub(crate) fn number_behind(before: &[u8], text: &[u8]) -> Option<usize> {
     let digits = text.strip_prefix(before)?.strip_suffix(b"\n".as_slice())?;
     match str::from_utf8(digits) {

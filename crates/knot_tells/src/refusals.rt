@@ -8,7 +8,7 @@ use std::fmt;
 pub enum Refusal {
     /// There is no crossing and no loop.
     Empty,
-    /// An edge does not stand exactly twice.
+    /// An edge does not occur exactly twice.
     Edge { edge: usize },
     /// Strands run against each other on an edge.
     Direction { edge: usize },
@@ -45,7 +45,7 @@ impl fmt::Display for Refusal {
     fn fmt<W: fmt::Write>(&self, f: &mut fmt::Formatter<W>) -> fmt::Result {
         match self {
             Refusal::Empty => write!(f, "the code has no crossing and no loop"),
-            Refusal::Edge { edge } => write!(f, "edge {edge} does not stand exactly twice"),
+            Refusal::Edge { edge } => write!(f, "edge {edge} does not occur exactly twice"),
             Refusal::Direction { edge } => {
                 write!(f, "strands run against each other on edge {edge}")
             }

@@ -1,4 +1,4 @@
-//! What is told of a call, as a sentence.
+//! What is reported of a call, as a sentence.
 ghost use Rattle.std.specs.Prelude.{◌≡◌, ◌≢◌, ◌⊎◌, IfSome, IsSome, None};
 ghost use Rattle.knot_ports.specs.Status.{IsOfAnswer};
 ghost use Rattle.knot_ports.specs.declared.status.Status.TheVariants as kind;
@@ -20,14 +20,14 @@ use std::fs::Files;
 use std::io::{Read, Write};
 use std::{fmt, io};
 
-/// What is told of a call that ended with another status than `Done` and `Unknown`.
+/// What is reported of a call that ended with another status than `Done` and `Unknown`.
 #[derive(Debug, Drop)]
 pub enum Sentence<'a> {
     /// Why the words ask for no job.
     Words(BadWords<'a>),
     /// Why a line is bad.
     Line { line: usize, reason: Reason<'a> },
-    /// A line of a table of knots is bad, or memory was wanting to say why.
+    /// A line of a table of knots is bad, or there was no memory to say why.
     LineAlone { line: usize, is_limit: bool },
     /// A line of a code is bad.
     CodeLine { line: usize, is_limit: bool },
@@ -41,7 +41,7 @@ pub enum Sentence<'a> {
     Read { error: Option<&'a io::Error> },
     /// Writing failed.
     Write { error: Option<&'a io::Error> },
-    /// Memory was wanting.
+    /// Memory ran out.
     OutOfMemory,
 }
 
@@ -55,7 +55,7 @@ pub fn reading(alloc: Global, words: &[String]) -> Option<Job>
     }
 }
 
-/// What is told of a call that ended with this status, if anything is; its source and its sink were these, and this the input that it
+/// What is reported of a call that ended with this status, if anything is; these were its source and its sink, and this the input that it
 /// answered.
 pub fn sentence_of<'a, R: Read + Drop, W: Write + Drop>(
     files: &impl Files,
@@ -92,7 +92,7 @@ pub fn sentence_of<'a, R: Read + Drop, W: Write + Drop>(
     }
 }
 
-/// What is told where an input was rejected: of a code, why no diagram of it is answered.
+/// What is reported where an input was rejected: of a code, why no diagram of it is answered.
 fn refused_sentence<'a, W: Write + Drop>(job: Job, sink: &StdSink<W>) -> Option<Sentence<'a>>
     ensures told { IfSome result (λ s. IsOfRefusal s) }
     ensures drawn { IfSome result (λ s. IsOfCode s → job ≡ Job.Plain PlainJob.Grid) }
@@ -103,7 +103,7 @@ fn refused_sentence<'a, W: Write + Drop>(job: Job, sink: &StdSink<W>) -> Option<
     }
 }
 
-/// What is told of the columns of a drawing, which exceed a limit.
+/// What is reported of the columns of a drawing, which exceed a limit.
 fn wide_sentence<'a>(job: Job, is_limit: bool, columns: usize) -> Option<Sentence<'a>>
     ensures told { IfSome result (λ s. IsOfInput is_limit s) }
     ensures drawn { IfSome result (λ s. IsOfCode s → job ≡ Job.Plain PlainJob.Grid) }
@@ -114,7 +114,7 @@ fn wide_sentence<'a>(job: Job, is_limit: bool, columns: usize) -> Option<Sentenc
     }
 }
 
-/// What is told of the line that an answer names, of the length of the input, or of the columns of a drawing.
+/// What is reported of the line that an answer names, of the length of the input, or of the columns of a drawing.
 fn line_sentence<'a, W: Write + Drop>(
     alloc: Global,
     job: Job,
@@ -159,7 +159,7 @@ impl<'a> fmt::Display for Sentence<'a> {
             } => write!(f, "line {line} exceeds a limit of a planar diagram code"),
             Sentence::CodeLine { line, .. } => write!(
                 f,
-                "line {line} is not what is due in a planar diagram code; of DT and Gauss codes tools/code.py makes diagrams"
+                "line {line} is not what is due in a planar diagram code; tools/code.py makes diagrams of DT and Gauss codes"
             ),
             Sentence::Wide { columns } => write!(
                 f,
@@ -213,10 +213,10 @@ impl<'a> fmt::Display for BadWords<'a> {
                 let value = Shown(value.as_bytes());
                 write!(f, "{knob}, and {value} is none")
             }
-            BadWords::NoValue { knob } => write!(f, "{knob}, and none stands behind it"),
+            BadWords::NoValue { knob } => write!(f, "{knob}, and none is given"),
             BadWords::Twice { knob } => {
                 let name = knob.name;
-                write!(f, "{name} stands twice")
+                write!(f, "{name} is given twice")
             }
             BadWords::NoOption { word } => {
                 let word = Shown(word.as_bytes());

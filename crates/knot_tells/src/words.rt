@@ -54,7 +54,7 @@ pub enum BadWords<'a> {
         word: &'a str,
         nearest: Option<&'static str>,
     },
-    /// A file stands behind the job.
+    /// A file follows the job.
     File {
         job: &'a str,
         file: &'a str,
@@ -73,7 +73,7 @@ pub enum BadWords<'a> {
     NoValue {
         knob: Knob,
     },
-    /// An option stands twice.
+    /// An option is given twice.
     Twice {
         knob: Knob,
     },
@@ -100,7 +100,7 @@ struct Reader<'a> {
     due: Option<Knob>,
 }
 
-/// Why words ask for no job, where they don't. Each cause is tried by words of its own, so that none is told that isn't one.
+/// Why words ask for no job, where they don't. Each cause is tried by words of its own, so that none is reported that isn't one.
 pub(crate) fn bad_words<'a>(
     files: &impl Files,
     alloc: Global,

@@ -60,6 +60,7 @@ step_at line = do
       else if bytes_eq name.0 (codes "shrink") then shrink name.1
       else Err (Malformed name.1.number)
 
+-- the next step line
 unfoldable pub braid_step_item : Text → Result (BraidMove × Text) TextFault
 braid_step_item text = do
   line ← next_line text

@@ -16,6 +16,7 @@ colours_at width order line = do
   colours ← numbers_behind (codes "colours") line
   if are_colours width order colours then Ok (record { items = colours }) else Err (Malformed line.number)
 
+-- the next line, as that of the colours
 unfoldable pub colours_item : ℕ → ℕ → Text → Result (ArrayVec ℕ × Text) TextFault
 colours_item width order text = do
   line ← next_line text
@@ -29,6 +30,7 @@ coloured_item width text = do
   colours ← colours_item width quandle.0.table.order quandle.1
   Ok ((quandle.0, colours.0), colours.1)
 
+-- a quandle and colours, as what may lack
 abbrev pub some_coloured : ℕ → Text → Result (Option (NamedQuandle × ArrayVec ℕ) × Text) TextFault
 some_coloured width text = do
   item ← coloured_item width text

@@ -4,6 +4,7 @@ use Rattle.text_lines.specs.Lines.{NumberedLine, Text}
 use Rattle.text_items.specs.declared.fault.TextFault.{TextFault}
 use Rattle.text_items.specs.declared.fault.TextFault.TheVariants.{Malformed, Limit}
 
+-- the text of these lines, which ends at line `ending`
 abbrev pub lines_then : List NumberedLine → ℕ → Text
 lines_then lines ending = record { lines = lines; ending = ending }
 

@@ -39,36 +39,44 @@ use Rattle.verdict_text.specs.declared.verdicts.Version.TheVariants.{Plain, Tidy
 abbrev pub rows_tokens : List ℕ → List ℕ → List (List ℕ)
 rows_tokens letter rows = letter ∷ map decimal rows
 
+-- the two lines of a grid
 abbrev pub grid_lines : Marks → List (List (List ℕ))
 grid_lines d = rows_tokens (codes "x") d.x ∷ rows_tokens (codes "o") d.o ∷ []
 
+-- the text of a grid
 abbrev pub grid_text : Marks → List ℕ
 grid_text d = lines_text (grid_lines d)
 
 -- ---- braids, and words of any length
 
+-- a letter in decimal, with a `-` in front of it where it is negative
 abbrev pub letter_token : ℤ → List ℕ
 letter_token (pos k) = decimal k
 letter_token (negsuc k) = codes "-" ++ decimal (k + 1)
 
+-- the one line of a braid
 abbrev pub braid_lines : Word → List (List (List ℕ))
 braid_lines b = (codes "braid" ∷ decimal b.strands ∷ map letter_token b.letters) ∷ []
 
+-- the text of a braid
 abbrev pub braid_text : Word → List ℕ
 braid_text b = lines_text (braid_lines b)
 
 -- ---- moves
 
+-- the word of a kind of mark
 abbrev pub kind_word : Kind → List ℕ
 kind_word Cross = codes "x"
 kind_word Ring = codes "o"
 
+-- the word of a corner of a block
 abbrev pub corner_word : Corner → List ℕ
 corner_word LowLeft = codes "lowleft"
 corner_word LowRight = codes "lowright"
 corner_word HighLeft = codes "highleft"
 corner_word HighRight = codes "highright"
 
+-- the line of a move
 abbrev pub move_tokens : Move → List (List ℕ)
 move_tokens (ShiftColumns k) = codes "shift" ∷ codes "columns" ∷ decimal k ∷ []
 move_tokens (ShiftRows k) = codes "shift" ∷ codes "rows" ∷ decimal k ∷ []
@@ -83,6 +91,7 @@ move_tokens (Destabilise c r) = codes "destabilise" ∷ decimal c ∷ decimal r 
 abbrev pub moves_lines : List ℕ → List Move → List (List (List ℕ))
 moves_lines word moves = (word ∷ decimal (length moves) ∷ []) ∷ map move_tokens moves
 
+-- the text of moves
 abbrev pub moves_text : List Move → List ℕ
 moves_text moves = lines_text (moves_lines (codes "moves") moves)
 
@@ -97,7 +106,7 @@ HasMoveText (SlideRows r) = r ≤ MAX_PLACE
 HasMoveText (Stabilise c kind corner) = c ≤ MAX_PLACE
 HasMoveText (Destabilise c r) = (c ≤ MAX_PLACE) × (r ≤ MAX_PLACE)
 
--- and there are few enough moves
+-- the numbers of all moves are small enough, and there are few enough moves
 pub record HaveMovesText (moves : List Move) : Type 0 where
   pub count : length moves ≤ MAX_NUMBER
   pub each : AllByRecursion HasMoveText moves
@@ -109,6 +118,7 @@ abbrev pub sign_word : Bool → List ℕ
 sign_word true = codes "plus"
 sign_word false = codes "minus"
 
+-- the line of a step
 abbrev pub step_tokens : BraidMove → List (List ℕ)
 step_tokens (Far p) = codes "far" ∷ decimal p ∷ []
 step_tokens (Triple p) = codes "triple" ∷ decimal p ∷ []
@@ -122,10 +132,11 @@ step_tokens Shrink = codes "shrink" ∷ []
 abbrev pub steps_head : List BraidMove → List (List ℕ)
 steps_head steps = codes "steps" ∷ decimal (length steps) ∷ []
 
--- and a line for each
+-- the line that says how many steps there are, and a line for each
 abbrev pub steps_lines : List BraidMove → List (List (List ℕ))
 steps_lines steps = steps_head steps ∷ map step_tokens steps
 
+-- the text of steps
 abbrev pub steps_text : List BraidMove → List ℕ
 steps_text steps = lines_text (steps_lines steps)
 
@@ -139,7 +150,7 @@ HasStepText (Turn k) = k ≤ MAX_PLACE
 HasStepText (Grow positive) = Unit {0}
 HasStepText Shrink = Unit {0}
 
--- and there are few enough steps
+-- the places and the letters of all steps are small enough, and there are few enough steps
 pub record HaveStepsText (steps : List BraidMove) : Type 0 where
   pub count : length steps ≤ MAX_NUMBER
   pub each : AllByRecursion HasStepText steps
@@ -171,6 +182,7 @@ table_behind t = (codes " table " ++ (decimal t.order ++ codes "\n")) ++ lines_t
 abbrev pub quandle_lines : List ℕ → NamedQuandle → List (List (List ℕ))
 quandle_lines word q = (word ∷ name_tokens q.name q.table.order) ∷ table_lines q.name q.table
 
+-- the text of a quandle item
 abbrev pub quandle_text : NamedQuandle → List ℕ
 quandle_text q = lines_text (quandle_lines (codes "quandle") q)
 
@@ -194,6 +206,7 @@ HasQuandleText = HasQuandleTextWithin MAX_ORDER
 abbrev pub list_lines : List (ArrayVec ℕ) → List (List (List ℕ))
 list_lines lists = (codes "list" ∷ decimal (length lists) ∷ []) ∷ map (λ (c : ArrayVec ℕ). map decimal c.items) lists
 
+-- the lines of a verdict, but for a head line
 abbrev pub verdict_lines : Verdict → List (List (List ℕ))
 verdict_lines (Equal moves) = moves_lines (codes "equal") moves
 verdict_lines (Different q first second) = quandle_lines (codes "different") q ++ (list_lines first ++ list_lines second)
@@ -209,6 +222,7 @@ abbrev pub version_lines : Version → Verdict → List (List (List ℕ))
 version_lines Plain v = verdict_lines v
 version_lines Tidy v = head_tokens ∷ verdict_lines v
 
+-- the text of a verdict of a version
 abbrev pub version_text : Version → Verdict → List ℕ
 version_text version v = lines_text (version_lines version v)
 
@@ -224,13 +238,14 @@ HasVerdictText one two (Different q first second) = HasQuandleText q × HasListT
 HasVerdictText one two (UnknownBudget budget) = budget ≤ MAX_NUMBER
 HasVerdictText one two (UnknownExhausted cap admitted) = (cap ≤ MAX_NUMBER) × (admitted ≤ MAX_NUMBER)
 
--- and one of this version
+-- the verdict has a text of this version behind two diagrams with so many columns
 abbrev pub HasVersionText : Version → ℕ → ℕ → Verdict → Type 0
 HasVersionText Plain one two v = HasVerdictText one two v
 HasVersionText Tidy one two v = HasVerdictText one two v × IsTidyVerdict v
 
 -- ---- diagrams
 
+-- the lines of a diagram
 abbrev pub diagram_lines : Diagram → List (List (List ℕ))
 diagram_lines (Grid d) = grid_lines d
 diagram_lines (Braid b) = braid_lines b
@@ -242,8 +257,10 @@ HasDiagramText (Braid b) = IsBraid b
 
 -- ---- colours
 
+-- the line of colours by column
 abbrev pub colours_lines : ArrayVec ℕ → List (List (List ℕ))
 colours_lines c = (codes "colours" ∷ map decimal c.items) ∷ []
 
+-- the text of colours
 abbrev pub colours_text : ArrayVec ℕ → List ℕ
 colours_text c = lines_text (colours_lines c)

@@ -46,15 +46,18 @@ lone_diagram_in text = do
   end ← text_end diagram.1
   Ok diagram.0
 
--- what each of these is read as, from the bytes of a text
+-- a replay, from the bytes of a text
 abbrev pub replay_of : List ℕ → Result ReplayText TextFault
 replay_of bytes = replay_in (text_of bytes)
 
+-- a listing of colourings, from the bytes of a text
 abbrev pub colour_of : List ℕ → Result ColourText TextFault
 colour_of bytes = colour_in (text_of bytes)
 
+-- a closure, from the bytes of a text
 abbrev pub close_of : List ℕ → Result CloseText TextFault
 close_of bytes = close_in (text_of bytes)
 
+-- a lone diagram, from the bytes of a text
 abbrev pub lone_diagram_of : List ℕ → Result Diagram TextFault
 lone_diagram_of bytes = lone_diagram_in (text_of bytes)

@@ -79,6 +79,7 @@ pub record AreListed (listed quandles : List NamedQuandle) : Type 0 where
   pub each : AllByRecursion HasQuandleText listed
   pub stand : quandles ≡ or_built_in listed
 
+-- the lines of listed quandles
 abbrev pub listed_lines : List NamedQuandle → List (List (List ℕ))
 listed_lines listed = flat_map (quandle_lines (codes "quandle")) listed
 
@@ -88,13 +89,15 @@ pub record HasProblemText (listed : List NamedQuandle) (p : ProblemText) : Type 
   pub second : HasDiagramText p.second
   pub quandles : AreListed listed p.quandles
 
+-- the lines of a problem in which these quandles are listed
 abbrev pub problem_lines : List NamedQuandle → ProblemText → List (List (List ℕ))
 problem_lines listed p = diagram_lines p.first ++ (diagram_lines p.second ++ listed_lines listed)
 
+-- the lines are a text of the problem
 abbrev pub IsProblemText : List (List (List ℕ)) → ProblemText → Type 0
 IsProblemText lines p = (listed : List NamedQuandle) × HasProblemText listed p × (lines ≡ problem_lines listed p)
 
--- and a verdict on the two diagrams, of either version
+-- the lines are a text of the problem and a verdict on its two diagrams, of either version
 abbrev pub IsCheckText : List (List (List ℕ)) → ProblemText → Verdict → Type 0
 IsCheckText lines p v =
     (listed : List NamedQuandle) × HasProblemText listed p
@@ -106,6 +109,7 @@ abbrev pub given_lines : Option (NamedQuandle × ArrayVec ℕ) → List (List (L
 given_lines None = []
 given_lines (Some given) = quandle_lines (codes "quandle") given.0 ++ colours_lines given.1
 
+-- what is given has a text
 abbrev pub HasGivenText : ℕ → Option (NamedQuandle × ArrayVec ℕ) → Type 0
 HasGivenText width None = Unit {0}
 HasGivenText width (Some given) = HasQuandleText given.0 × AreColours width given.0.table.order given.1.items
@@ -116,6 +120,7 @@ pub record HasReplayText (r : ReplayText) : Type 0 where
   pub moves : HaveMovesText r.moves
   pub colours : HasGivenText (column_count r.diagram) r.colours
 
+-- the lines of a replay
 abbrev pub replay_lines : ReplayText → List (List (List ℕ))
 replay_lines r = diagram_lines r.diagram ++ (moves_lines (codes "moves") r.moves ++ given_lines r.colours)
 
@@ -139,6 +144,7 @@ pub record HasBraidCheckText (i : BraidCheckText) : Type 0 where
   pub second : IsBraid i.second
   pub steps : HaveStepsText i.steps
 
+-- the lines are a text of two braids and steps
 abbrev pub IsBraidCheckText : List (List (List ℕ)) → BraidCheckText → Type 0
 IsBraidCheckText lines i =
     (said : List (List (List ℕ))) × HasBraidCheckText i × AreStepsLines said i.steps
@@ -148,10 +154,11 @@ IsBraidCheckText lines i =
 abbrev pub value_tokens : Cochain → ℕ → List (List ℕ)
 value_tokens w x = map (λ y. decimal (value w x y)) (range_with_len 0 w.quandle.order)
 
+-- the rows of the table of a cocycle
 abbrev pub value_lines : Cochain → List (List (List ℕ))
 value_lines w = map (value_tokens w) (range_with_len 0 w.quandle.order)
 
--- its modulus, and its table
+-- the modulus of a cocycle, and its table
 abbrev pub cocycle_lines : Cochain → List (List (List ℕ))
 cocycle_lines w = (codes "weight" ∷ decimal w.modulus ∷ []) ∷ value_lines w
 
@@ -168,5 +175,6 @@ pub record HasWeightText (w : WeightText) : Type 0 where
   pub listed : HasQuandleText w.listed
   pub cocycle : HasCocycleText w.listed.table w.cocycle
 
+-- the lines of two diagrams, a quandle and a cocycle of it
 abbrev pub weight_lines : WeightText → List (List (List ℕ))
 weight_lines w = diagram_lines w.first ++ (diagram_lines w.second ++ (quandle_lines (codes "quandle") w.listed ++ cocycle_lines w.cocycle))

@@ -20,8 +20,8 @@ pub struct BraidCheckText {
     pub steps: Items<BraidMove>,
 }
 
-/// Two braids and the steps between them, and nothing behind them. Else the fault of the first bad line, or want of memory.
-/// Whether the steps are legal and where they lead is not asked.
+/// Two braids and the steps between them, and nothing after them. Otherwise the fault of the first bad line, or `OutOfMemory`.
+/// Whether the steps are legal and where they lead is not checked.
 #[tactic(auto, unfolding(crate::specs::BraidChecks::braidcheck_in))]
 pub fn read_braidcheck(alloc: Global, bytes: &[u8]) -> Result<BraidCheckText, TextFault>
     ensures { Gives (λ b. b) result (braidcheck_of bytes.now) }

@@ -12,7 +12,7 @@ use text_items::{TextFault, letter};
 use text_lines::{Line, Lines};
 use verdict_text::last_place;
 
-/// A letter of any size, and no token behind it.
+/// A letter of any size, and no token after it.
 #[tactic(auto, unfolding(crate::specs::BraidSteps::last_letter))]
 fn last_letter(line: &mut Line) -> Result<i64, TextFault>
     ensures { Gives (λ a. (a, line.new)) result (last_letter line.old) }
@@ -39,7 +39,7 @@ fn bounded_letter(line: &Line, value: i64) -> Result<i8, TextFault>
     }
 }
 
-/// A place and a letter, behind `insert`.
+/// A place and a letter, after `insert`.
 #[tactic(auto, unfolding(crate::specs::BraidSteps::insert))]
 fn insert(line: &mut Line) -> Result<BraidMove, TextFault>
     ensures { Gives (λ m. m) result (insert line.old) }
@@ -52,7 +52,7 @@ fn insert(line: &mut Line) -> Result<BraidMove, TextFault>
     })
 }
 
-/// The sign of the new crossing, behind `grow`.
+/// The sign of the new crossing, after `grow`.
 #[tactic(auto, unfolding(crate::specs::BraidSteps::grow))]
 fn grow(line: &mut Line) -> Result<BraidMove, TextFault>
     ensures { Gives (λ m. m) result (grow line.old) }
@@ -70,7 +70,7 @@ fn grow(line: &mut Line) -> Result<BraidMove, TextFault>
     }
 }
 
-/// Nothing, behind `shrink`.
+/// Nothing, after `shrink`.
 #[tactic(auto, unfolding(crate::specs::BraidSteps::shrink))]
 fn shrink(line: &mut Line) -> Result<BraidMove, TextFault>
     ensures { Gives (λ m. m) result (shrink line.old) }
@@ -108,7 +108,7 @@ fn step_at(line: &mut Line) -> Result<BraidMove, TextFault>
 
 /// The next step line.
 #[tactic(auto, unfolding(crate::specs::BraidSteps::braid_step_item))]
-fn next_step(lines: &mut Lines) -> Result<BraidMove, TextFault>
+fn braid_step_item(lines: &mut Lines) -> Result<BraidMove, TextFault>
     ensures { Gives (λ m. (m, lines.new)) result (braid_step_item lines.old) }
 {
     let mut line = next_line(lines)?;
@@ -121,12 +121,12 @@ fn step_lines(alloc: Global, count: u32, lines: &mut Lines) -> Result<Vec<BraidM
 {
     let mut steps = Vec::new(alloc);
     for _ in 0..count {
-        steps.push(next_step(lines)?)?;
+        steps.push(braid_step_item(lines)?)?;
     }
     Ok(steps)
 }
 
-/// The item `steps`.
+/// The item `steps`: their number, and as many steps. Otherwise the fault of the first bad line, or `OutOfMemory`.
 #[tactic(auto, unfolding(crate::specs::BraidSteps::steps_item))]
 pub fn steps_item(alloc: Global, lines: &mut Lines) -> Result<Vec<BraidMove>, TextFault>
     ensures { Gives (λ v. (v.items, lines.new)) result (steps_item lines.old) }

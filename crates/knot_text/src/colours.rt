@@ -1,12 +1,13 @@
-//! The colours of a replay, behind their quandle.
+//! The colours of a replay, after their quandle.
 ghost use Rattle.std.specs.Prelude.{◌≡◌};
 ghost use Rattle.text_items.specs.Reading.{Gives};
 ghost use Rattle.colour_rows.specs.Colouring.{are_colours};
 ghost use Rattle.knot_text.specs.Colours.{colours_at, colours_item, coloured_item, coloured};
 
 use colour_rows::Colouring;
+use grid_core::all_below;
 use std::alloc::Global;
-use text_items::numbers::{all_below, numbers_behind};
+use text_items::numbers::numbers_behind;
 use text_items::reading::next_line;
 use text_items::{TextFault, quandle_item};
 use text_lines::{Line, Lines};
@@ -56,7 +57,7 @@ fn coloured_item(
     Ok((listed, colours))
 }
 
-/// A quandle and colours where a line that begins with `quandle` is next, or nothing. Else the fault of the first bad line, or want of memory.
+/// A quandle and colours where a line that begins with `quandle` is next, or nothing. Otherwise the fault of the first bad line, or `OutOfMemory`.
 #[tactic(auto, unfolding(crate::specs::Colours::coloured))]
 pub fn coloured(
     alloc: Global,

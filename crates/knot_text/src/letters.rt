@@ -10,7 +10,7 @@ use std::alloc::AllocError;
 use text_lines::push_number;
 
 /// Appends the line of a braid word: `braid`, the number of strands and the letters.
-/// Where memory is wanting, a part of it may have been appended.
+/// If memory runs out, a part of it may have been appended.
 pub fn push_braid(out: &mut Vec<u8>, strands: u8, letters: &[i8]) -> Result<(), AllocError>
     ensures text { OnOk result (out.new.items ≡ out.old.items ++ braid_text (record { strands = strands; letters = letters.now })) }
     ensures part { OnErr result (AppendsPart out.old.items out.new.items (braid_text (record { strands = strands; letters = letters.now }))) }
@@ -22,7 +22,7 @@ pub fn push_braid(out: &mut Vec<u8>, strands: u8, letters: &[i8]) -> Result<(), 
 }
 
 /// Appends a line of a word and letters.
-/// Where memory is wanting, a part of it may have been appended.
+/// If memory runs out, a part of it may have been appended.
 pub fn push_letter_line(out: &mut Vec<u8>, word: &[u8], letters: &[i32]) -> Result<(), AllocError>
     ensures text { OnOk result (out.new.items ≡ out.old.items ++ line_text (word.now ∷ map letter_token letters.now)) }
     ensures part { OnErr result (AppendsPart out.old.items out.new.items (line_text (word.now ∷ map letter_token letters.now))) }
@@ -32,7 +32,7 @@ pub fn push_letter_line(out: &mut Vec<u8>, word: &[u8], letters: &[i32]) -> Resu
     out.extend_from_slice(b"\n")
 }
 
-/// Appends the letters of a braid word, each behind a space.
+/// Appends the letters of a braid word, each after a space.
 fn push_word_letters(out: &mut Vec<u8>, letters: &[i8]) -> Result<(), AllocError>
     ensures text { OnOk result (out.new.items ≡ out.old.items ++ flat_map spaced (map letter_token letters.now)) }
     ensures part { OnErr result (AppendsPart out.old.items out.new.items (flat_map spaced (map letter_token letters.now))) }
@@ -43,7 +43,7 @@ fn push_word_letters(out: &mut Vec<u8>, letters: &[i8]) -> Result<(), AllocError
     Ok(())
 }
 
-/// Appends letters, each behind a space.
+/// Appends letters, each after a space.
 fn push_letters(out: &mut Vec<u8>, letters: &[i32]) -> Result<(), AllocError>
     ensures text { OnOk result (out.new.items ≡ out.old.items ++ flat_map spaced (map letter_token letters.now)) }
     ensures part { OnErr result (AppendsPart out.old.items out.new.items (flat_map spaced (map letter_token letters.now))) }
@@ -54,7 +54,7 @@ fn push_letters(out: &mut Vec<u8>, letters: &[i32]) -> Result<(), AllocError>
     Ok(())
 }
 
-/// Appends a letter behind a space.
+/// Appends a letter after a space.
 fn push_spaced(out: &mut Vec<u8>, letter: i32) -> Result<(), AllocError>
     ensures text { OnOk result (out.new.items ≡ out.old.items ++ spaced (letter_token letter)) }
     ensures part { OnErr result (AppendsPart out.old.items out.new.items (spaced (letter_token letter))) }

@@ -24,4 +24,4 @@ pub use verdict_core::{Diagram, Listed, ProblemText, QuandleName, Verdict};
 pub use verdict_text::{
     TIDY_VERSION, Version, problem_item, read_check, read_problem, verdict_item,
 };
-pub use weights::WeightText;
+pub use weights::{WeightText, read_weights};

@@ -10,7 +10,7 @@ use text_lines::Lines;
 use verdict_core::Diagram;
 use verdict_text::diagram_item;
 
-/// Two diagrams, and nothing behind them. Else the fault of the first bad line, or want of memory.
+/// Two diagrams, and nothing after them. Otherwise the fault of the first bad line, or `OutOfMemory`.
 #[tactic(auto, unfolding(crate::specs::Pairs::pair_in))]
 pub fn read_pair(alloc: Global, bytes: &[u8]) -> Result<(Diagram, Diagram), TextFault>
     ensures { Gives (λ p. p) result (pair_of bytes.now) }

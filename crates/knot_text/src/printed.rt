@@ -22,7 +22,7 @@ use text_lines::{push_counted, push_number, push_number_line, push_paired, push_
 use verdict_core::{LargeListed, Listed, QuandleName, Verdict};
 use verdict_text::{TIDY_VERSION, Version};
 
-/// The text of a grid: the line `x` with the rows of its Xs by column, and the line `o` with those of its Os; or want of memory.
+/// The text of a grid: the line `x` with the rows of its Xs by column, and the line `o` with those of its Os; or `OutOfMemory`.
 pub fn print_grid(alloc: Global, grid: &Grid) -> Result<Vec<u8>, OutOfMemory>
     ensures { IfOk result (λ v. v.items ≡ grid_text grid.now) }
 {
@@ -32,7 +32,7 @@ pub fn print_grid(alloc: Global, grid: &Grid) -> Result<Vec<u8>, OutOfMemory>
     Ok(out)
 }
 
-/// The text of moves: the line `moves` with how many there are, and a line for each; or want of memory.
+/// The text of moves: the line `moves` with how many there are, and a line for each; or `OutOfMemory`.
 /// It is read back wherever there are at most `MAX_NUMBER` moves.
 pub fn print_moves(alloc: Global, moves: &[Move]) -> Result<Vec<u8>, OutOfMemory>
     ensures { IfOk result (λ v. v.items ≡ moves_text moves.now) }
@@ -43,9 +43,9 @@ pub fn print_moves(alloc: Global, moves: &[Move]) -> Result<Vec<u8>, OutOfMemory
     Ok(out)
 }
 
-/// The text of a verdict, with its evidence, behind the line `certificate 2`; or want of memory. Its list of moves, if it has one, is tidy.
+/// The text of a verdict, with its evidence, after the line `certificate 2`; or `OutOfMemory`. Its list of moves, if it has one, is tidy.
 ///
-/// It is read back behind two diagrams wherever its numbers are at most `MAX_NUMBER`, a list has at most `MAX_COLOURINGS`
+/// It is read back after two diagrams wherever its numbers are at most `MAX_NUMBER`, a list has at most `MAX_COLOURINGS`
 /// members, each with a colour below the order for each column of its diagram, and an Alexander quandle's factor is below
 /// its order.
 pub fn print_verdict(alloc: Global, verdict: &Verdict) -> Result<Vec<u8>, OutOfMemory>
@@ -187,8 +187,8 @@ fn corner_word(corner: Corner) -> &'static [u8]
     }
 }
 
-/// Appends a line of a word and the name of a quandle, and behind it the lines of a table.
-/// Where memory is wanting, a part of it may have been appended.
+/// Appends a line of a word and the name of a quandle, and after it the lines of a table.
+/// If memory runs out, a part of it may have been appended.
 pub fn push_quandle(out: &mut Vec<u8>, word: &[u8], listed: &Listed) -> Result<(), AllocError>
     ensures text { OnOk result (out.new.items ≡ out.old.items ++ lines_text (quandle_lines word.now listed.now)) }
     ensures part { OnErr result (AppendsPart out.old.items out.new.items (lines_text (quandle_lines word.now listed.now))) }
@@ -197,8 +197,8 @@ pub fn push_quandle(out: &mut Vec<u8>, word: &[u8], listed: &Listed) -> Result<(
     push_named(out, word, listed.name(), &quandle)
 }
 
-/// Appends a line of a word and the name of a quandle of up to `MAX_LARGE_ORDER` colours, and behind it the lines of a table.
-/// Where memory is wanting, a part of it may have been appended.
+/// Appends a line of a word and the name of a quandle of up to `MAX_LARGE_ORDER` colours, and after it the lines of a table.
+/// If memory runs out, a part of it may have been appended.
 pub fn push_large(out: &mut Vec<u8>, word: &[u8], listed: &LargeListed) -> Result<(), AllocError>
     ensures text { OnOk result (out.new.items ≡ out.old.items ++ lines_text (quandle_lines word.now listed.now)) }
     ensures part { OnErr result (AppendsPart out.old.items out.new.items (lines_text (quandle_lines word.now listed.now))) }
@@ -207,7 +207,7 @@ pub fn push_large(out: &mut Vec<u8>, word: &[u8], listed: &LargeListed) -> Resul
     push_named(out, word, listed.name(), &quandle)
 }
 
-/// Appends a line of a word and a name, and behind it, where the name is that of a table, the lines of these operations.
+/// Appends a line of a word and a name, and after it, where the name is that of a table, the lines of these operations.
 fn push_named(
     out: &mut Vec<u8>,
     word: &[u8],
@@ -229,7 +229,7 @@ fn push_named(
     }
 }
 
-/// Appends `table` with the order of a quandle behind a word, and its lines.
+/// Appends `table` with the order of a quandle after a word, and its lines.
 fn push_table(out: &mut Vec<u8>, quandle: &Operations) -> Result<(), AllocError>
     ensures text { OnOk result (out.new.items ≡ out.old.items ++ table_behind quandle.now) }
     ensures part { OnErr result (AppendsPart out.old.items out.new.items (table_behind quandle.now)) }
@@ -262,7 +262,7 @@ fn row_of(quandle: &Operations, x: u8) -> ArrayVec<u8, MAX_LARGE_ORDER>
 }
 
 /// Appends `list` with how many colourings there are, and a line of colours by column for each.
-/// Where memory is wanting, a part of it may have been appended.
+/// If memory runs out, a part of it may have been appended.
 pub fn push_list(out: &mut Vec<u8>, colourings: &[Colouring]) -> Result<(), AllocError>
     ensures text { OnOk result (out.new.items ≡ out.old.items ++ lines_text (list_lines colourings.now)) }
     ensures part { OnErr result (AppendsPart out.old.items out.new.items (lines_text (list_lines colourings.now))) }

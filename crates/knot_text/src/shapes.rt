@@ -39,7 +39,7 @@ pub struct CloseText {
 }
 
 /// A diagram and moves to be made on it, and then nothing, or a quandle and a colour below its order for each column of
-/// the diagram. Else the fault of the first bad line, or want of memory. Whether the moves are legal and the colours a colouring is not asked.
+/// the diagram. Otherwise the fault of the first bad line, or `OutOfMemory`. Whether the moves are legal and the colours a colouring is not checked.
 #[tactic(auto, unfolding(crate::specs::Shapes::replay_in))]
 pub fn read_replay(alloc: Global, bytes: &[u8]) -> Result<ReplayText, TextFault>
     ensures { Gives (λ r. r) result (replay_of bytes.now) }
@@ -56,7 +56,7 @@ pub fn read_replay(alloc: Global, bytes: &[u8]) -> Result<ReplayText, TextFault>
     })
 }
 
-/// A diagram and any number of quandles, without which the built-in list stands. Else the fault of the first bad line, or want of memory.
+/// A diagram and any number of quandles; if there are none, the built-in list is taken. Otherwise the fault of the first bad line, or `OutOfMemory`.
 #[tactic(auto, unfolding(crate::specs::Shapes::colour_in))]
 pub fn read_colour(alloc: Global, bytes: &[u8]) -> Result<ColourText, TextFault>
     ensures { Gives (λ c. c) result (colour_of bytes.now) }
@@ -68,7 +68,7 @@ pub fn read_colour(alloc: Global, bytes: &[u8]) -> Result<ColourText, TextFault>
     Ok(ColourText { diagram, quandles })
 }
 
-/// A braid and any number of quandles, without which the built-in list stands. Else the fault of the first bad line, or want of memory.
+/// A braid and any number of quandles; if there are none, the built-in list is taken. Otherwise the fault of the first bad line, or `OutOfMemory`.
 #[tactic(auto, unfolding(crate::specs::Shapes::close_in))]
 pub fn read_close(alloc: Global, bytes: &[u8]) -> Result<CloseText, TextFault>
     ensures { Gives (λ c. c) result (close_of bytes.now) }
@@ -80,7 +80,7 @@ pub fn read_close(alloc: Global, bytes: &[u8]) -> Result<CloseText, TextFault>
     Ok(CloseText { braid, quandles })
 }
 
-/// A diagram, and nothing behind it. Else the fault of the first bad line, or want of memory.
+/// A diagram, and nothing after it. Otherwise the fault of the first bad line, or `OutOfMemory`.
 #[tactic(auto, unfolding(crate::specs::Shapes::lone_diagram_in))]
 pub fn read_diagram(alloc: Global, bytes: &[u8]) -> Result<Diagram, TextFault>
     ensures { Gives (λ d. d) result (lone_diagram_of bytes.now) }

@@ -15,7 +15,7 @@ use std::alloc::AllocError;
 pub const MAX_LINE: usize = 4 * MAX_SIZE + 1;
 
 /// Appends the line of a colouring: its colours from the left, with one space between them.
-/// Where memory is wanting, a part of it may have been appended.
+/// If memory runs out, a part of it may have been appended.
 pub(crate) fn push_colour_line(out: &mut Vec<u8>, colours: &Colouring) -> Result<(), AllocError>
     ensures text { OnOk result (out.new.items ≡ out.old.items ++ line_text (map decimal colours.now.items)) }
     ensures part { OnErr result (AppendsPart out.old.items out.new.items (line_text (map decimal colours.now.items))) }
@@ -38,7 +38,7 @@ fn spell_all(line: &mut ArrayVec<u8, MAX_LINE>, colours: &[u8])
     }
 }
 
-/// Spells colours, each behind a space.
+/// Spells colours, each after a space.
 fn spell_behind(line: &mut ArrayVec<u8, MAX_LINE>, colours: &[u8])
     requires room { length line.old.items + 4 * length colours.now ≤ MAX_LINE }
     ensures bytes { line.new.items ≡ line.old.items ++ flat_map (λ n. spaced (decimal n)) colours.now }

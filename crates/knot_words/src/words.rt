@@ -203,7 +203,7 @@ where
 
 /// What the words ask for: a job and its options. `words[0]` is the program's name, whatever it is.
 /// `Usage` comes where `clap` refuses the words for another cause than memory, a request for help among them, or where
-/// they name none of the jobs, and nowhere else. No clause says when `OutOfMemory` comes: it may at any words.
+/// they name none of the jobs, and nowhere else. When `OutOfMemory` comes is not proved: it may come for any words.
 pub fn read_words(alloc: Global, words: &[String]) -> Result<Asked, WordsFault>
     ensures asked { IfOk result (λ asked. Asks (texts_of words.now) asked) }
     ensures bounds { IfOk result IsWithinBounds }

@@ -41,6 +41,7 @@ touching a b = is_end a.low b || is_end a.high b
 abbrev pub four_different_ends : Span → Span → Bool
 four_different_ends a b = not (a.low == a.high) && not (b.low == b.high) && not (touching a b)
 
--- Two neighbouring columns may trade places, by Cromwell's exchange, where their spans have four different ends and are disjoint or strictly nested (Cromwell 1995; Dynnikov 2006).
+-- Two neighbouring columns may trade places, by Cromwell's exchange, where their spans have four different ends and are disjoint or strictly nested
+-- (Cromwell 1995; Dynnikov 2006).
 abbrev pub may_trade_places : Span → Span → Bool
 may_trade_places a b = four_different_ends a b && (disjoint a b || strictly_nested a b)

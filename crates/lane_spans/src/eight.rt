@@ -19,7 +19,7 @@ pub fn covering_block(lo: &[u8], hi: &[u8], row: u8, at: usize) -> u64
 }
 
 /// The mask of the eight columns from `at` on that may trade places with their neighbours, which are
-/// the columns behind them, the first of the eight at bit 0.
+/// the columns after them, the first of the eight at bit 0.
 pub fn exchange_block(lo: &[u8], hi: &[u8], at: usize) -> u64
     requires same { length lo.now ≡ length hi.now }
     requires inside { at + 8 < length lo.now }

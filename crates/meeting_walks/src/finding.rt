@@ -20,9 +20,9 @@ use torus_grids::shortened;
 /// A list of moves that joins the first diagram to the second: each is legal where it is made, and the last one leads to the second
 /// diagram. Or None where the search ends without one; or the only error, that memory ran out.
 ///
-/// Translates are joined by their shifts, within any bounds. Else the list is sought at random, and need not be the shortest.
-/// None says nothing of the diagrams but that they aren't translates of each other. It comes where the walks end without meeting, and
-/// would come too where a path that they found can't be written as moves, which no test has met.
+/// Translates are joined by their shifts, within any bounds. For other diagrams the list is sought at random, and need not be the shortest.
+/// None says only that the diagrams aren't translates of each other. It comes if the walks end without meeting, and
+/// would also come if a path that they found couldn't be written as moves, which has happened in no test.
 ///
 /// The workers of a plan search, in as many threads as can be started. The list is that of the worker that makes the fewest steps until its
 /// walks meet, the first of those with as few: so it doesn't depend on the order in which the threads run. If memory runs out in one worker,

@@ -20,7 +20,7 @@ pub struct Bounds {
 pub struct Plan {
     /// The seed of the first worker, and what bounds the walks of each.
     pub bounds: Bounds,
-    /// How many workers search; 0 counts as 1. Each has a table of its own, and the seed above that of the one before, where 0 is above
+    /// How many workers search; 0 counts as 1. Each has a table of its own, and the seed one above that of the worker before; 0 follows
     /// `u64::MAX`.
     pub workers: u32,
 }

@@ -11,7 +11,7 @@ use rand_pcg::Pcg32;
 use std::alloc::Global;
 use torus_grids::{Form, Torus};
 
-/// The steps of an excursion at most: the least size falls at each counting anew.
+/// The most steps of an excursion: each time that they are counted anew, the least size has fallen.
 const MOST_STEPS: u32 = LONG * MAX_SIZE as u32;
 
 /// The stream of the generator.

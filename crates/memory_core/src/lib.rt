@@ -1,4 +1,4 @@
-//! Want of memory, as one type for all crates, and a list that a public field holds.
+//! The error that memory ran out, as one type for all crates, and a list that a public field holds.
 #![tactic(auto)]
 
 mod items;

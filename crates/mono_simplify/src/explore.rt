@@ -23,7 +23,7 @@ pub enum Explored {
     Smaller { grid: Grid, moves: Vec<Move> },
     /// The whole class: at most as many members as the budget, and no destabilisation is legal in it.
     Whole,
-    /// The listing has more members than the budget, and no destabilisation is legal on any translate of so many first ones.
+    /// The listing has more members than the budget, and no destabilisation is legal on any translate of its first members, as many as the budget.
     More,
 }
 
@@ -98,8 +98,8 @@ fn turn(
     Ok(after)
 }
 
-/// Puts the keys of the exchanges among these offers, made at the member of a place, to the end of the class, those that are not in it
-/// yet, unless there would be more members than the budget. Whether there would be. The error comes where there is no memory.
+/// Adds to the class the keys of the exchanges among these offers, made at the member of a place, if they are not in it yet, unless there
+/// would be more members than the budget. Answers whether there would be. It fails only if memory runs out.
 pub fn admit_all(
     class: &mut Class,
     place: u32,

@@ -34,7 +34,7 @@ pub fn the_listing_is_determined()
     ensures whole { (d : Diagram) (keys others : List Packed) → IsListing d keys → IsListing d others → keys ≡ others }
 {}
 
-/// Where the whole listing of a diagram has at most so many members, no number of turns lists more. So the two ends of a simplification
+/// If the whole listing of a diagram has at most some number of members, no number of turns lists more. So the two ends of a simplification
 /// exclude each other.
 pub fn a_listing_has_not_both_few_and_more_members()
     ensures members { (d : Diagram) (b turns : ℕ) (keys : List Packed)

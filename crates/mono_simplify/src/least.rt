@@ -26,7 +26,7 @@ pub enum LeastEnd {
     /// The class has at most as many members as the budget, and the answered diagram is the least that shifts and exchanges reach.
     Whole,
     /// The listing of the class has more members than the budget, which is this number, and the answered diagram is the least of its
-    /// first so many members.
+    /// first members, as many as the budget.
     Spent { members: u32 },
 }
 
@@ -42,7 +42,7 @@ pub struct LeastGrid {
 }
 
 /// The least canonical diagram that shifts and exchanges reach from a grid: least by the rows of the Xs, and then by those of the Os. The
-/// canonical diagrams that they reach are listed, breadth first, up to a budget of at least one. Want of memory is the only refusal.
+/// canonical diagrams that they reach are listed, breadth first, up to a budget of at least one. It fails only if memory runs out.
 pub fn least_grid(alloc: Global, grid: &Grid, budget: u32) -> Result<LeastGrid, OutOfMemory>
     requires { 1 ≤ budget }
     ensures { IfOk result (λ l. FindsLeast grid.now budget l.grid l.moves l.end) }
@@ -52,8 +52,8 @@ pub fn least_grid(alloc: Global, grid: &Grid, budget: u32) -> Result<LeastGrid, 
     least_grid_by(alloc, grid, budget, &mut offers)
 }
 
-/// The same as `least_grid`, with a list of offers of the caller's, which is renewed for each member: what was in it before doesn't matter.
-/// A caller that asks for more than one diagram so makes one list.
+/// Does as `least_grid`, with a list of offers of the caller's, which is renewed for each member: what was in it before doesn't matter.
+/// So a caller that asks for more than one diagram can use one list.
 pub fn least_grid_by(
     alloc: Global,
     grid: &Grid,

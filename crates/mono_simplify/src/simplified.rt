@@ -16,8 +16,8 @@ pub enum SimpleEnd {
     /// The whole listing of the answered diagram has at most as many members as the budget, and no diagram that shifts and exchanges
     /// reach from it has a legal destabilisation.
     Irreducible,
-    /// The listing of the answered diagram has more members than the budget, which is this number, and of its first so many members
-    /// none has a translate with a legal destabilisation.
+    /// The listing of the answered diagram has more members than the budget, which is this number, and of its first members, as many as
+    /// the budget, none has a translate with a legal destabilisation.
     Spent { members: u32 },
 }
 
@@ -34,7 +34,7 @@ pub struct Simplified {
 }
 
 /// Simplifies a diagram by shifts, exchanges and destabilisations. Of each diagram on the way all diagrams that shifts and exchanges
-/// reach are listed, up to a budget of at least one; the first destabilisation found is made, and so on. Want of memory is the only refusal.
+/// reach are listed, up to a budget of at least one; the first destabilisation found is made, and so on. It fails only if memory runs out.
 pub fn simplify(alloc: Global, grid: &Grid, budget: u32) -> Result<Simplified, OutOfMemory>
     requires { 1 ≤ budget }
     ensures { IfOk result (λ s. Simplifies grid.now budget s.grid s.moves s.end) }
@@ -45,7 +45,7 @@ pub fn simplify(alloc: Global, grid: &Grid, budget: u32) -> Result<Simplified, O
 }
 
 /// Simplifies a diagram as `simplify` does, with a list of offers of the caller's, which is renewed for each diagram on the way: what was in it
-/// before doesn't matter. A caller that simplifies more than one diagram so makes one list.
+/// before doesn't matter. So a caller that simplifies more than one diagram can use one list.
 pub fn simplify_by(
     alloc: Global,
     grid: &Grid,

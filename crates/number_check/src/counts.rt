@@ -21,12 +21,14 @@ pub(crate) struct CountedGrid<'a> {
     pub(crate) counted: &'a Counted,
 }
 
-/// A diagram, with these words of its numbers.
-pub(crate) fn said_of<'a>(grid: &'a Grid, counted: &'a Counted) -> CountedGrid<'a>
-    ensures grid { result.grid.now ≡ grid.now }
-    ensures counted { result.counted.now ≡ counted.now }
-{
-    CountedGrid { grid, counted }
+impl<'a> CountedGrid<'a> {
+    /// A diagram, with what is said of its numbers.
+    pub(crate) fn of(grid: &'a Grid, counted: &'a Counted) -> CountedGrid<'a>
+        ensures grid { result.grid.now ≡ grid.now }
+        ensures counted { result.counted.now ≡ counted.now }
+    {
+        CountedGrid { grid, counted }
+    }
 }
 
 /// Numbers that are said to be those of a diagram, by seeds of it.

@@ -1,5 +1,5 @@
-//! The checker of evidence by numbers: it rules on what is said to tell two diagrams apart by numbers of colourings, by their weights, or by
-//! linking numbers. It accepts exactly what holds, and otherwise names the first cause.
+//! The checker of evidence by numbers: it rules on evidence that numbers of colourings, their weights or linking numbers
+//! distinguish two diagrams. It accepts exactly what holds, and otherwise names the first cause.
 #![tactic(auto)]
 
 mod counts;

@@ -7,13 +7,13 @@ ghost use Rattle.evidence_core.specs.declared.evidence.Evidence.TheVariants.{Num
 ghost use Rattle.number_check.specs.EvidenceHolds.{EvidenceHolds};
 ghost use Rattle.number_check.specs.Ruling.{RulesOnEvidence};
 
-use crate::counts::{CountedGrid, cause_of_counts, said_of};
+use crate::counts::{CountedGrid, cause_of_counts};
 use evidence_core::{Block, Cause, Evidence, LargeWeighing, Linked, NumberRuling, cause_of_links};
 use grid_core::Grid;
 use memory_core::OutOfMemory;
 use std::alloc::Global;
 
-/// Whether evidence by numbers tells two diagrams apart: accepted exactly where it holds, else rejected for the first cause.
+/// Whether evidence by numbers distinguishes two diagrams: accepted exactly where it holds, else rejected for the first cause.
 ///
 /// `Numbers`: the seeds of each diagram settle it and have few choices of colours, the numbers are the diagram's own, and they differ.
 /// `Linking`: the numbers of components and the linking numbers are the links' own, and differ. Where it is accepted, no list of moves joins the two.
@@ -31,7 +31,7 @@ pub fn rule(
     Ok(ruling)
 }
 
-/// The ruling by the kind of evidence.
+/// The ruling by the kind of evidence, of which `rule` proves the clause `accepted`.
 fn ruled(
     alloc: Global,
     first: &Grid,
@@ -46,7 +46,12 @@ fn ruled(
             block,
             first: one,
             second: two,
-        } => rule_counts(alloc, block, &said_of(first, one), &said_of(second, two)),
+        } => rule_counts(
+            alloc,
+            block,
+            &CountedGrid::of(first, one),
+            &CountedGrid::of(second, two),
+        ),
         Evidence::Linking {
             first: one,
             second: two,
@@ -77,7 +82,7 @@ fn rule_counts(
     Ok(NumberRuling::Accepted)
 }
 
-/// A block's quandle is one, and so is its cocycle, if there is one. It does nothing.
+/// Gives proofs the facts that a block's quandle is a quandle and its cocycle, if it has one, a cocycle. It does nothing.
 pub fn laws_of(block: &Block)
     ensures quandle { IsQuandle block.now.listed.table }
     ensures cocycle { IsCocycleOrNone block.now.cocycle }

@@ -16,7 +16,7 @@ pub struct SeedPair {
 }
 
 impl SeedPair {
-    /// A plan of each of two grids, by seeds that are sought. That they are few isn't promised.
+    /// A plan of each of two grids, by seeds that are sought. That they are few isn't proved.
     pub fn of(alloc: Global, first: &Grid, second: &Grid) -> Result<SeedPair, OutOfMemory>
         ensures { IfOk result (λ s. ArePlansOf first.now second.now s) }
     {

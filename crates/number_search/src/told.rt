@@ -16,7 +16,7 @@ use number_text::{Block, Counted, Evidence, LargeWeighing};
 use std::alloc::Global;
 
 /// Evidence that two grids are not equivalent, by their linking numbers, or else by the first of the blocks that distinguishes them.
-/// `None` exactly where none of these does.
+/// `None` exactly where neither linking numbers nor a block does.
 pub fn tell_apart(
     alloc: Global,
     first: &Grid,

@@ -1,8 +1,10 @@
 -- A table without a fault is a quandle.
-use Rattle.std.proofs.Common.{◌≡◌, ◌<◌, ◌≤◌, ◌*◌, ◌==◌, ◌&&◌, ◌||◌, ◌∙◌, inl, inr, ℕ, zero, suc, eqb, All, List, [], ◌∷◌, Bool, true, false, not, None, length, map, get_or, refl, sym, ap, arith}
+use Rattle.std.proofs.Common.{◌≡◌, ◌<◌, ◌≤◌, ◌*◌, ◌==◌, ◌&&◌, ◌||◌, ◌∙◌, inl, inr, ℕ, zero, suc, eqb, All, List, [], ◌∷◌, Bool, true, false, not, None, length}
+use Rattle.std.proofs.Common.{map, get_or, refl, sym, ap, arith}
 use Rattle.std.specs.Prelude.{nat_lt, nat_le}
 use Rattle.std.specs.List.{range_with_len, position_or_len, list_any}
-use Rattle.std.proofs.lemmas.Bool.{le-leb, eqb-true, eq-eqb, ltb-true, lt-ltb, leb-true, and_parts, and_from, not-true, cases_lt, cases_order, both_ways, false≢true, ne_eqb}
+use Rattle.std.proofs.lemmas.Bool.{le-leb, eqb-true, eq-eqb, ltb-true, lt-ltb, leb-true, and_parts, and_from, not-true, cases_lt, cases_order, both_ways}
+use Rattle.std.proofs.lemmas.Bool.{false≢true, ne_eqb}
 use Rattle.std.proofs.lemmas.List.Elements.{All-cons, All-head, All-tail}
 use Rattle.std.proofs.lemmas.List.FromFn.{get_or-range_with_len, length-range_with_len, get_or-map-range_with_len, length-map-range_with_len}
 use Rattle.std.proofs.lemmas.List.Sums.{passes_at_first, fails_before_first}

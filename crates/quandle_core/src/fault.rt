@@ -1,7 +1,8 @@
 //! Why a table is no quandle.
 ghost use Rattle.std.specs.Prelude.{◌≡◌, ◌<◌, ◌*◌, length, None};
 ghost use Rattle.quandle_core.specs.Quandle.{Table, over};
-ghost use Rattle.quandle_core.specs.Fault.{or_else, order_fault, length_fault, range_fault, idempotent_fault, collision_fault, distributive_fault, first_fault_within, collides, distributes};
+ghost use Rattle.quandle_core.specs.Fault.{or_else, order_fault, length_fault, range_fault, idempotent_fault, collision_fault, distributive_fault};
+ghost use Rattle.quandle_core.specs.Fault.{first_fault_within, collides, distributes};
 
 /// The first law that a table breaks, with its lexicographically first case.
 #[derive(Clone, Copy, Debug, PartialEq, Eq)]

@@ -35,7 +35,7 @@ impl From<AllocFailed<u8>> for LargeFault {
 #[derive(Drop)]
 pub struct LargeQuandle {
     order: u8,
-    // Both operations by column, one column behind the other.
+    // Both operations by column, one column after the other.
     forward: Vec<u8>,
     backward: Vec<u8>,
 }
@@ -59,7 +59,7 @@ impl Model for LargeQuandle {
 impl LargeQuandle {
     /// The quandle of a table in which `table[x * order + y]` is `x ▷ y`.
     ///
-    /// Else the first law that the table breaks, with its lexicographically first case. A table that breaks none is refused for want of memory alone.
+    /// If the table breaks a law, the error is the first law that it breaks, with the lexicographically first case; otherwise it fails only if memory runs out.
     pub fn new(alloc: Global, order: u8, table: &[u8]) -> Result<LargeQuandle, LargeFault>
         ensures broken { (fault : QuandleFault) → first_fault_within MAX_LARGE_ORDER (record { order = order; entries = table.now }) ≡ Some fault
             → result ≡ Err (large.Broken fault) }
@@ -73,7 +73,7 @@ impl LargeQuandle {
         }
     }
 
-    /// The quandle of these operations again. Want of memory is the only error.
+    /// A quandle with these operations. It fails only if memory runs out.
     pub fn of(alloc: Global, quandle: &Operations) -> Result<LargeQuandle, AllocFailed<u8>>
         ensures { IfOk result (λ q. q ≡ quandle.now) }
     {

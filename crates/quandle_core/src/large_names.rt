@@ -40,7 +40,7 @@ impl LargeListed {
         }
     }
 
-    /// A smaller quandle, with its name. Want of memory is the only error.
+    /// A smaller quandle, with its name. It fails only if memory runs out.
     pub fn listed(alloc: Global, listed: &Listed) -> Result<LargeListed, AllocFailed<u8>>
         ensures { IfOk result (λ q. q ≡ listed.now) }
     {
@@ -67,7 +67,7 @@ impl LargeListed {
         self.quandle.operations()
     }
 
-    /// The same again. Want of memory is the only error.
+    /// A copy. It fails only if memory runs out.
     pub fn copy(&self, alloc: Global) -> Result<LargeListed, AllocFailed<u8>>
         ensures { IfOk result (λ q. q ≡ self.now) }
     {

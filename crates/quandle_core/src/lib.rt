@@ -1,6 +1,6 @@
 //! Finite quandles by their tables: the type, its two operations, the built-in tables, and quandles by name.
 //! A table is accepted exactly where the three laws hold, and refused with the first law that fails and its first case.
-//! A name gives one quandle, and a table of whatever quandle has a name too.
+//! Each name except `Table` gives one quandle at most, and any quandle may have the name `Table`.
 #![tactic(auto)]
 
 mod fault;

@@ -8,7 +8,7 @@ ghost use Rattle.quandle_core.specs.declared.names.QuandleName.TheVariants as na
 use crate::quandle::{MAX_ORDER, Quandle};
 use std::marker::Model;
 
-/// What a quandle is called. Only a `Listed` keeps it to orders from 1 to `MAX_ORDER`.
+/// What a quandle is called. The numbers may be any; in a `Listed` the order is from 1 to `MAX_ORDER`.
 #[derive(Clone, Copy, Debug, PartialEq, Eq)]
 pub enum QuandleName {
     /// The trivial quandle of this order.
@@ -84,7 +84,7 @@ impl Listed {
         &self.quandle
     }
 
-    /// The same again. Takes no memory.
+    /// A copy. Takes no memory.
     pub fn copy(&self) -> Self
         ensures { result ≡ self.now }
     {

@@ -12,7 +12,7 @@ pub const MAX_LARGE_ORDER: usize = 128;
 
 /// Both operations of a finite quandle of order 1 to `MAX_LARGE_ORDER`, which contracts see as its table.
 ///
-/// So what only reads them is written once for quandles of each size.
+/// With it, code that only reads the operations is written once, for quandles of every size.
 #[derive(Drop)]
 pub struct Operations<'a> {
     order: u8,

@@ -45,7 +45,7 @@ impl Model for Quandle {
 impl Quandle {
     /// The quandle of a table in which `table[x * order + y]` is `x ▷ y`.
     ///
-    /// Else the first law that the table breaks, with its lexicographically first case.
+    /// If the table breaks a law, the error is the first law that it breaks, with the lexicographically first case.
     pub fn new(order: u8, table: &[u8]) -> Result<Quandle, QuandleFault>
         ensures fault { result_err result ≡ first_quandle_fault (record { order = order; entries = table.now }) }
         ensures quandle { IfOk result (λ q. q ≡ record { order = order; entries = table.now }) }
@@ -65,7 +65,7 @@ impl Quandle {
         of_table(order, entries_of(order, quandle).as_slice())
     }
 
-    /// The same quandle again.
+    /// A copy of the quandle.
     pub fn copy(&self) -> Self
         ensures { result ≡ self.now }
     {

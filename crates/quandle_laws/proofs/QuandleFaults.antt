@@ -1,11 +1,14 @@
 -- The first fault, told without a search: its case fails, and no case before it.
-use Rattle.std.proofs.Common.{◌≡◌, ◌<◌, ◌≤◌, ◌*◌, ◌==◌, ◌&&◌, ◌∙◌, ◌⊎◌, inl, inr, ℕ, zero, suc, List, [], ◌∷◌, not, Option, Some, None, length, slice_index, refl, sym, ap, subst, arith}
+use Rattle.std.proofs.Common.{◌≡◌, ◌<◌, ◌≤◌, ◌*◌, ◌==◌, ◌&&◌, ◌∙◌, ◌⊎◌, inl, inr, ℕ, zero, suc, List, [], ◌∷◌, not, Option, Some, None, length, slice_index}
+use Rattle.std.proofs.Common.{refl, sym, ap, subst, arith}
 use Rattle.std.specs.Prelude.{nat_lt, nat_le}
-use Rattle.std.proofs.lemmas.Bool.{le-leb, eqb-true, eq-eqb, ltb-true, lt-ltb, leb-true, and_parts, and_from, not-true, cases_lt, cases_order, both_ways, not-false}
+use Rattle.std.proofs.lemmas.Bool.{le-leb, eqb-true, eq-eqb, ltb-true, lt-ltb, leb-true, and_parts, and_from, not-true, cases_lt, cases_order, both_ways}
+use Rattle.std.proofs.lemmas.Bool.{not-false}
 use Rattle.quandle_core.specs.Quandle.{Table, over}
 use Rattle.quandle_core.specs.Colours.{ComesBefore}
 use Rattle.quandle_core.specs.QuandleCases.{IsQuandleFaultOf, IsFirstQuandleFault, quandle_law_rank, quandle_case_of}
-use Rattle.quandle_core.specs.Fault.{first, order_fault, length_fault, range_fault, idempotent_fault, collision_fault, distributive_fault, first_fault_within, range_case, idempotent_case, collision_case, distributive_case, collides, distributes, or_else}
+use Rattle.quandle_core.specs.Fault.{first, order_fault, length_fault, range_fault, idempotent_fault, collision_fault, distributive_fault, first_fault_within}
+use Rattle.quandle_core.specs.Fault.{range_case, idempotent_case, collision_case, distributive_case, collides, distributes, or_else}
 use Rattle.quandle_core.specs.declared.fault.QuandleFault.{QuandleFault}
 use Rattle.quandle_core.specs.declared.fault.QuandleFault.TheVariants.{Order, Length, Range, Idempotent, Collision, Distributive, NoInverse}
 use Rattle.quandle_core.proofs.Firsts.{first_none, unless_none, or_else_none}

@@ -7,7 +7,7 @@ ghost use Rattle.quandle_core.specs.Colours.{ComesBefore};
 ghost use Rattle.colour_rows.specs.Colouring.{IsColouring};
 ghost use Rattle.colour_list.specs.Listing.{colourings, times};
 
-/// Each colouring stands once in the complete list, and nothing else stands there.
+/// Each colouring is in the complete list exactly once, and nothing else is in it.
 pub fn each_colouring_is_listed_once()
     ensures once { (t : Table) (d : Diagram) (colours : List ℕ) → IsColouring t d colours → times colours (colourings t d) ≡ 1 }
     ensures only { (t : Table) (d : Diagram) (colours : List ℕ) → Contains (colourings t d) colours → IsColouring t d colours }

@@ -36,7 +36,7 @@ pub fn the_equation_of_a_row_is_its_walk()
 {}
 
 /// The spans of a diagram's columns as two lists say what the diagram says: a column covers a row by its place in the lists
-/// exactly where it covers it in the diagram, and no place behind the columns covers any. In a grid each low end lies below
+/// exactly where it covers it in the diagram, and no place after the columns covers any. In a grid each low end lies below
 /// its high end.
 pub fn the_listed_spans_are_those_of_the_columns()
     ensures columns { (d : Diagram) (c r : ℕ) → c < size d → lanes.lane_covers (spans_of d).lows (spans_of d).highs r c ≡ covers d c r }

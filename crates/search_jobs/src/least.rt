@@ -15,7 +15,7 @@ use std::alloc::{AllocError, Global};
 use text_lines::push_counted;
 
 /// The reply to the bytes of a diagram: the least one of its class, with the budget that is asked for. A first bad line is named by the
-/// reply. The error comes where there is no memory.
+/// reply. It fails only if memory runs out.
 pub fn answer(alloc: Global, asked: &Asked, bytes: &[u8]) -> Result<PlainReply, AllocError>
     requires bounds { IsWithinBounds asked.now }
     ensures { IfOk result (λ reply. AnswersRead (AnswersLeast asked.now.budget) (lone_diagram_of bytes.now) reply) }

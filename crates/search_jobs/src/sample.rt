@@ -7,7 +7,7 @@ use knot_ports::Status;
 use reply_text::PlainReply;
 use std::alloc::{AllocError, Global};
 
-/// The reply to a seed: its walk, checked and coloured. There is no input. The error comes where there is no memory.
+/// The reply to a seed: its walk, checked and coloured. There is no input. It fails only if memory runs out.
 pub fn answer(alloc: Global, seed: u64) -> Result<PlainReply, AllocError>
     ensures { IfOk result (λ reply. AnswersSample seed reply) }
 {

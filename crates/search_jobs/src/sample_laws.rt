@@ -37,7 +37,7 @@ pub fn a_walk_joins_its_ends()
         → (length moves ≡ TURNS) × JoinsWithin LARGEST right_trefoil moves last }
 {}
 
-/// What is said of a walk is the same of each seed: both ends have the numbers of colourings of the right trefoil.
+/// What is said of a walk is the same for each seed: both ends have the numbers of colourings of the right trefoil.
 pub fn each_walk_is_told_alike()
     ensures { (seed : ℕ) (moves : List Move) (last : Diagram)
         → Walks right_trefoil (seed_words seed) moves last

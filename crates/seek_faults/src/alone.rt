@@ -11,9 +11,9 @@ use text_lines::Lines;
 pub enum NotOne {
     /// It has no line but blank ones and comments.
     Nothing,
-    /// It ends behind the line of the Xs.
+    /// It ends after the line of the Xs.
     Half,
-    /// This line, counted from 1, stands behind the diagram.
+    /// This line, counted from 1, follows the diagram.
     More { line: usize },
 }
 
@@ -36,13 +36,13 @@ impl fmt::Display for NotOne {
             NotOne::Nothing => write!(f, "there is no diagram in it"),
             NotOne::Half => write!(f, "it ends before the line `o ..` of its diagram"),
             NotOne::More { .. } => f.write_str(
-                "a line too many: where two diagrams are given, each stands alone, and quandles in a file behind `--quandles`",
+                "a line too many: where two diagrams are given, each comes alone, and quandles in a file of their own, as `--quandles FILE`",
             ),
         }
     }
 }
 
-/// Whether a text is one diagram and no more, by the number of its lines: one that begins with `braid`, or one that begins with `x` and
+/// Whether a text is one diagram and no more, by the number of its lines: one line that begins with `braid`, or one that begins with `x` and
 /// another. A text that begins with another word is left to `reason_at`, and so is what else is wrong with a line.
 pub fn one_diagram(bytes: &[u8]) -> Result<(), NotOne>
     ensures { result ≡ one_diagram (text_of bytes.now).lines }
@@ -60,7 +60,7 @@ pub fn one_diagram(bytes: &[u8]) -> Result<(), NotOne>
     Ok(())
 }
 
-/// Whether one line is left and no more, behind the Xs of a grid.
+/// Whether one line is left and no more, after the Xs of a grid.
 fn one_line_more(lines: &mut Lines) -> Result<(), NotOne>
     ensures { result ≡ one_line_more lines.old.lines }
 {

@@ -13,7 +13,7 @@ use text_lines::{Line, MAX_DIGITS};
 /// Why a line is no braid.
 #[derive(Clone, Copy, Debug, PartialEq, Eq)]
 pub enum BraidReason<'a> {
-    /// Nothing stands behind `braid`.
+    /// Nothing follows `braid`.
     NoStrands,
     /// There are no strands, or more than `MAX_STRANDS`.
     Strands { strands: u32 },
@@ -29,7 +29,7 @@ impl<'a> fmt::Display for BraidReason<'a> {
     fn fmt<W: fmt::Write>(&self, f: &mut fmt::Formatter<W>) -> fmt::Result {
         match self {
             BraidReason::NoStrands => {
-                f.write_str("the number of strands is due behind `braid`, and then the letters")
+                f.write_str("the number of strands is due after `braid`, and then the letters")
             }
             BraidReason::Strands { strands: 0 } => write!(f, "a braid has one strand or more"),
             BraidReason::Strands { strands } => write!(
@@ -61,7 +61,7 @@ impl<'a> fmt::Display for BraidReason<'a> {
     }
 }
 
-/// Why the line of a braid is bad, from behind its first word.
+/// Why the line of a braid is bad, after its first word.
 pub(crate) fn braid_reason<'a>(line: &mut Line<'a>, due: Due) -> Reason<'a> {
     match braid_fault(line) {
         Ok(Some(reason)) => Reason::Braid(reason),

@@ -6,9 +6,9 @@ use grid_core::MAX_SIZE;
 use std::fmt;
 use text_lines::Line;
 
-/// The marks of a line.
+/// The kind of the marks of a line.
 #[derive(Clone, Copy, Debug, PartialEq, Eq)]
-pub enum Marks {
+pub enum MarkKind {
     Crosses,
     Rings,
 }
@@ -36,7 +36,7 @@ pub enum GridReason {
     },
     /// A row has two marks of a kind.
     TwoInRow {
-        marks: Marks,
+        marks: MarkKind,
         row: u32,
         first: usize,
         second: usize,
@@ -47,11 +47,11 @@ pub enum GridReason {
     },
 }
 
-impl fmt::Display for Marks {
+impl fmt::Display for MarkKind {
     fn fmt<W: fmt::Write>(&self, f: &mut fmt::Formatter<W>) -> fmt::Result {
         match self {
-            Marks::Crosses => write!(f, "Xs"),
-            Marks::Rings => write!(f, "Os"),
+            MarkKind::Crosses => write!(f, "Xs"),
+            MarkKind::Rings => write!(f, "Os"),
         }
     }
 }
@@ -89,14 +89,14 @@ impl fmt::Display for GridReason {
     }
 }
 
-/// The Xs of a line, from behind its first word, or why they are none.
+/// The Xs of a line, after its first word, or why they are none.
 pub(crate) fn crosses_of<'a>(line: &mut Line<'a>) -> Result<Numbers<'a>, Reason<'a>> {
     let numbers = Numbers::of(line)?;
     let count = numbers.count;
     if count < 2 {
         return Err(Reason::Grid(GridReason::FewColumns { count }));
     }
-    match marks_reason(&numbers, Marks::Crosses, count) {
+    match marks_reason(&numbers, MarkKind::Crosses, count) {
         Some(reason) => Err(Reason::Grid(reason)),
         None => Ok(numbers),
     }
@@ -123,14 +123,14 @@ fn rings_fault(crosses: &Numbers, rings: &Numbers) -> Option<GridReason> {
             columns,
         });
     }
-    match marks_reason(rings, Marks::Rings, columns) {
+    match marks_reason(rings, MarkKind::Rings, columns) {
         Some(reason) => Some(reason),
         None => one_cell(crosses, rings),
     }
 }
 
 /// Why numbers are not the rows of the marks of a diagram of so many columns.
-fn marks_reason(numbers: &Numbers, marks: Marks, columns: usize) -> Option<GridReason> {
+fn marks_reason(numbers: &Numbers, marks: MarkKind, columns: usize) -> Option<GridReason> {
     let count = numbers.count;
     if count > MAX_SIZE {
         return Some(GridReason::ManyColumns { count });

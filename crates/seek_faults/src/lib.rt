@@ -1,5 +1,5 @@
 //! Why a line of an input is bad, in words, for whoever wrote it.
-//! That a line is bad the readers say, with a proof (text_items and above); here they read the items once more,
+//! The readers say, with a proof, that a line is bad (text_items and above); here the items are read once more,
 //! up to the bad one, to find out what is wrong with it.
 #![tactic(auto)]
 

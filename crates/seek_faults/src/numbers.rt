@@ -65,7 +65,7 @@ impl<'a> Numbers<'a> {
             .find(|value| *value as usize >= bound)
     }
 
-    /// The first place whose number stands at an earlier place too, and that place.
+    /// The first place whose number is at an earlier place too, and that place.
     pub(crate) fn repeated(&self) -> Option<(usize, usize)> {
         let values = self.first.as_slice();
         for second in 0..values.len() {
@@ -88,7 +88,7 @@ pub(crate) fn number_of<'a>(token: &'a [u8]) -> Result<u32, Reason<'a>> {
     }
 }
 
-/// Where a value first stands.
+/// Where a value first occurs.
 fn place_of(values: &[u32], value: u32) -> Option<usize> {
     values.iter().position(|other| *other == value)
 }

@@ -1,4 +1,6 @@
 //! Why lines are no quandle.
+ghost use Rattle.std.specs.Prelude.{◌≤◌};
+ghost use Rattle.quandle_core.specs.declared.quandle.TheConstants.{MAX_ORDER};
 
 use crate::numbers::Numbers;
 use crate::reason::{Due, Reason};
@@ -22,11 +24,11 @@ pub enum Family {
 /// Why a line is no quandle, or no row of its table.
 #[derive(Clone, Copy, Debug, PartialEq, Eq)]
 pub enum QuandleReason<'a> {
-    /// Nothing stands behind `quandle`.
+    /// Nothing follows `quandle`.
     NoName,
     /// No family is called so.
     Unknown { token: Shown<'a> },
-    /// Another number of numbers is due behind the name of the family.
+    /// Another number of numbers is due after the name of the family.
     Count { family: Family, count: usize },
     /// The order is 0, or above `MAX_ORDER` where tables may not have more colours.
     Order { order: u32 },
@@ -66,7 +68,7 @@ impl Family {
         }
     }
 
-    /// How many numbers are due behind the name.
+    /// How many numbers are due after the name.
     fn numbers(self) -> usize {
         match self {
             Family::Tetrahedral => 0,
@@ -84,7 +86,9 @@ impl fmt::Display for Family {
             Family::Tetrahedral => write!(f, "`tetrahedral` is followed by nothing"),
             Family::Alexander => write!(f, "`alexander` is followed by its order and its factor"),
             Family::Table => {
-                f.write_str("`table` is followed by its order, and its rows stand below it")
+                f.write_str(
+                    "`table` is followed by its order, and the rows have lines of their own",
+                )
             }
         }
     }
@@ -94,14 +98,14 @@ impl<'a> fmt::Display for QuandleReason<'a> {
     fn fmt<W: fmt::Write>(&self, f: &mut fmt::Formatter<W>) -> fmt::Result {
         match self {
             QuandleReason::NoName => f.write_str(
-                "the name of a quandle is due behind `quandle`: trivial, dihedral, tetrahedral, alexander or table",
+                "the name of a quandle is due after `quandle`: trivial, dihedral, tetrahedral, alexander or table",
             ),
             QuandleReason::Unknown { token } => write!(
                 f,
                 "no quandle is called {token}: the names are trivial, dihedral, tetrahedral, alexander and table"
             ),
             QuandleReason::Count { family, count } => {
-                write!(f, "{family}, and here stand {count} numbers")
+                write!(f, "{family}; numbers given here: {count}")
             }
             QuandleReason::Order { order: 0 } => write!(f, "the order of a quandle is 1 or more"),
             QuandleReason::Order { order } => write!(
@@ -159,7 +163,7 @@ fn write_law<W: fmt::Write>(f: &mut fmt::Formatter<W>, fault: QuandleFault) -> f
     }
 }
 
-/// The order of the table that the line of a quandle begins, if it begins one, from behind its first word; or why the line is bad: by its
+/// The order of the table that the line of a quandle begins, if it begins one, after its first word; or why the line is bad: by its
 /// form, by a limit, or by what it says. One quandle more than an input may have exceeds a limit whatever it says. A table has an order of
 /// at most `most`.
 pub(crate) fn quandle_line<'a>(
@@ -182,7 +186,7 @@ pub(crate) fn quandle_line<'a>(
     }
 }
 
-/// The family that a line names and the numbers behind it, as many as are due, of any length; or why not.
+/// The family that a line names and the numbers after it, as many as are due, of any length; or why not.
 fn named_numbers<'a>(line: &mut Line<'a>) -> Result<(Family, Numbers<'a>), Reason<'a>> {
     let Some(token) = line.next_token() else {
         return Err(Reason::Quandle(QuandleReason::NoName));
@@ -215,6 +219,13 @@ fn numbers_reason<'a>(family: Family, numbers: &[u32], most: usize) -> Option<Qu
         return Some(QuandleReason::Order { order });
     }
     let factor = *numbers.get(1)?;
+    factor_reason(order, factor)
+}
+
+/// Why there is no quandle of an order and a factor.
+fn factor_reason<'a>(order: u32, factor: u32) -> Option<QuandleReason<'a>>
+    requires { (1 ≤ order) × (order ≤ MAX_ORDER) }
+{
     if factor >= order {
         return Some(QuandleReason::Factor { order, factor });
     }
@@ -234,7 +245,7 @@ fn large_reason<'a>(family: Family, order: u32, most: usize) -> Option<QuandleRe
     }
 }
 
-/// Why no table of this order is next. Want of memory is the only error.
+/// Why no table of this order is next. It fails only if memory runs out.
 pub(crate) fn table_reason<'a>(
     alloc: Global,
     order: usize,
@@ -255,7 +266,7 @@ pub(crate) fn table_reason<'a>(
     }
 }
 
-/// Appends the entries of the next row of a table of this order, or says why there are none. Want of memory is the only error.
+/// Appends the entries of the next row of a table of this order, or says why there are none. It fails only if memory runs out.
 fn push_row<'a>(
     entries: &mut Vec<u8>,
     order: usize,

@@ -1,6 +1,4 @@
 //! The input, item by item, up to the one that is bad.
-ghost use Rattle.std.specs.Prelude.{◌≤◌};
-ghost use Rattle.quandle_core.specs.declared.operations.TheConstants.{MAX_LARGE_ORDER};
 
 use crate::braids::braid_reason;
 use crate::grids::{crosses_of, rings_reason};
@@ -9,20 +7,18 @@ use crate::quandles::{quandle_line, table_reason};
 use crate::reason::{Due, Reason, Which};
 use crate::shape::{PROBLEM, Part, Shape};
 use crate::shown::Shown;
-use quandle_core::LargeListed;
 use std::alloc::{AllocError, Global};
-use text_items::reading::{next_line, word};
-use text_items::{MAX_QUANDLES, TextFault, braid_item, grid_item, large_quandle_at};
+use text_items::{MAX_QUANDLES, TextFault, braid_item, grid_item, large_quandle_item};
 use text_lines::{Line, Lines};
 
 /// Why a line of a problem is bad, where it is the first bad one, or what is due where the text ends. Lines are counted from 1. Of a line
-/// that is not the first bad one, or of none, what is answered may be beside the point. Want of memory is the only error.
+/// that is not the first bad one, or of none, the answer may not fit. It fails only if memory runs out.
 pub fn reason_at<'a>(alloc: Global, bytes: &'a [u8], at: usize) -> Result<Reason<'a>, AllocError> {
     reason_in(alloc, PROBLEM, bytes, at, false)
 }
 
 /// Why a line of an input of any shape is bad. Of its further part no more is known than where it begins, and whether it is a limit
-/// that the line exceeds. Want of memory is the only error.
+/// that the line exceeds. It fails only if memory runs out.
 pub fn reason_in<'a>(
     alloc: Global,
     shape: Shape,
@@ -35,21 +31,14 @@ pub fn reason_in<'a>(
         return Ok(reason);
     }
     let mut quandles = 0;
-    for _quandle in 0..u64::MAX {
-        if !shape.then.takes_quandle(quandles) || !lines.begins(b"quandle") {
-            break;
-        }
-        let mut item = lines.again();
-        if quandles >= MAX_QUANDLES || !has_quandle(alloc, shape, &mut lines)? {
-            return quandle_reason(alloc, shape, quandles, &mut item);
-        }
-        quandles += 1;
+    if let Some(reason) = bad_quandle(alloc, shape, &mut quandles, &mut lines)? {
+        return Ok(reason);
     }
     let due = shape.due_behind(quandles);
     Ok(reason_behind(due, at, is_limit, &mut lines))
 }
 
-/// Why the first bad diagram is bad, if one is. Want of memory is the only error.
+/// Why the first bad diagram is bad, if one is. It fails only if memory runs out.
 fn bad_diagram<'a>(
     alloc: Global,
     shape: Shape,
@@ -65,7 +54,28 @@ fn bad_diagram<'a>(
     Ok(None)
 }
 
-/// Whether an item was read. Want of memory is the only error.
+/// Why the first bad quandle is bad, if one is; those before it are counted. It fails only if memory runs out.
+fn bad_quandle<'a>(
+    alloc: Global,
+    shape: Shape,
+    quandles: &mut usize,
+    lines: &mut Lines<'a>,
+) -> Result<Option<Reason<'a>>, AllocError> {
+    for _quandle in 0..u64::MAX {
+        if !shape.then.takes_quandle(*quandles) || !lines.begins(b"quandle") {
+            break;
+        }
+        let mut item = lines.again();
+        if *quandles >= MAX_QUANDLES || !has_quandle(alloc, shape, lines)? {
+            let reason = quandle_reason(alloc, shape, *quandles, &mut item)?;
+            return Ok(Some(reason));
+        }
+        *quandles += 1;
+    }
+    Ok(None)
+}
+
+/// Whether an item was read. It fails only if memory runs out.
 fn was_read<T: Drop>(read: Result<T, TextFault>) -> Result<bool, AllocError> {
     match read {
         Ok(_) => Ok(true),
@@ -85,16 +95,8 @@ fn has_diagram(alloc: Global, is_braid: bool, lines: &mut Lines) -> Result<bool,
 
 /// Whether a quandle is next.
 fn has_quandle(alloc: Global, shape: Shape, lines: &mut Lines) -> Result<bool, AllocError> {
-    was_read(quandle_item(alloc, shape.then.most_of_table(), lines))
-}
-
-/// A quandle, of an order of at most `most` where it is by a table.
-fn quandle_item(alloc: Global, most: usize, lines: &mut Lines) -> Result<LargeListed, TextFault>
-    requires { most ≤ MAX_LARGE_ORDER }
-{
-    let mut line = next_line(lines)?;
-    word(&mut line, b"quandle")?;
-    large_quandle_at(alloc, most, &mut line, lines)
+    let most = shape.then.most_of_table();
+    was_read(large_quandle_item(alloc, most, lines))
 }
 
 /// Why no diagram is next.
@@ -115,7 +117,7 @@ fn diagram_reason<'a>(which: Which, is_braid: bool, lines: &mut Lines<'a>) -> Re
     }
 }
 
-/// Why a line of Xs, from behind its first word, or the next line is bad.
+/// Why a line of Xs, after its first word, or the next line is bad.
 fn grid_reason<'a>(which: Which, line: &mut Line<'a>, lines: &mut Lines<'a>) -> Reason<'a> {
     match crosses_of(line) {
         Ok(crosses) => below_reason(&crosses, Due::Rings { which }, lines),
@@ -135,7 +137,7 @@ fn below_reason<'a>(crosses: &Numbers, due: Due, lines: &mut Lines<'a>) -> Reaso
     }
 }
 
-/// Why no quandle is next, behind so many quandles. Want of memory is the only error.
+/// Why no quandle is next, after so many quandles. It fails only if memory runs out.
 fn quandle_reason<'a>(
     alloc: Global,
     shape: Shape,
@@ -155,7 +157,7 @@ fn quandle_reason<'a>(
     }
 }
 
-/// Why a line behind the diagrams and the quandles is bad.
+/// Why a line after the diagrams and the quandles is bad.
 fn reason_behind<'a>(due: Due, at: usize, is_limit: bool, lines: &mut Lines<'a>) -> Reason<'a> {
     let Some(mut line) = lines.next_line() else {
         return Reason::Ends { due };

@@ -31,7 +31,7 @@ pub enum Due {
     Quandle,
     /// Nothing.
     Nothing { are_two: bool },
-    /// The first line of a part, or a quandle in its place, if one may stand there.
+    /// The first line of a part, or a quandle in its place, if one may come there.
     Begin { part: Part },
     /// A further line of the part that begins in a line.
     Behind { part: Part, line: usize },
@@ -122,7 +122,7 @@ impl fmt::Display for Due {
             }
             Due::Begin { part } => write_begin(f, *part),
             Due::Behind { part, line } => {
-                write!(f, "more is due behind line {line}, where {part}")
+                write!(f, "more is due after line {line}, where {part}")
             }
         }
     }
@@ -180,7 +180,7 @@ impl<'a> fmt::Display for Reason<'a> {
                 due: Due::Behind { part, line },
             } => write!(
                 f,
-                "the line is not what is due behind line {line}, where {part}"
+                "the line is not what is due after line {line}, where {part}"
             ),
             Reason::Other { due } => write!(f, "the line is not what is due: {due}"),
         }

@@ -7,13 +7,9 @@ use colour_list::MAX_COLOURINGS;
 use grid_core::MAX_SIZE;
 use quandle_core::{MAX_LARGE_ORDER, MAX_ORDER};
 use std::fmt;
-use text_items::MAX_QUANDLES;
+use text_items::reading::{MAX_LETTER, MAX_PLACE};
+use text_items::{MAX_MODULUS, MAX_QUANDLES};
 use text_lines::MAX_DIGITS;
-
-/// The greatest number of a move or a step, and the greatest modulus.
-const MAX_BYTE: u8 = u8::MAX;
-/// The greatest absolute value of a letter in a step.
-const MAX_LETTER: i8 = i8::MAX;
 
 /// What an input is made of: diagrams, and what follows them.
 #[derive(Clone, Copy, Debug, PartialEq, Eq)]
@@ -31,7 +27,7 @@ pub enum Then {
     Nothing,
     /// Any number of quandles.
     Quandles,
-    /// Any number of quandles, and a further part; a `LargeCocycle` stands behind its quandle, or there is none.
+    /// Any number of quandles, and a further part; a `LargeCocycle` follows its quandle, or there is none.
     QuandlesAnd(Part),
     /// One quandle, and a further part.
     QuandleAnd(Part),
@@ -43,7 +39,7 @@ pub enum Then {
 #[derive(Clone, Copy, Debug, PartialEq, Eq)]
 pub enum Part {
     Verdict,
-    /// Moves, and what may stand behind them.
+    /// Moves, and what may follow them.
     Moves,
     Steps,
     Cocycle,
@@ -68,7 +64,7 @@ impl Shape {
         }
     }
 
-    /// What is due behind the diagrams and so many quandles.
+    /// What is due after the diagrams and so many quandles.
     pub(crate) fn due_behind(self, quandles: usize) -> Due {
         let are_two = self.are_two;
         match (self.then, self.then.part(quandles)) {
@@ -81,7 +77,7 @@ impl Shape {
 }
 
 impl Then {
-    /// Whether a quandle may stand behind the diagrams and so many quandles.
+    /// Whether a quandle may follow the diagrams and so many quandles.
     pub(crate) fn takes_quandle(self, quandles: usize) -> bool {
         match self {
             Then::Quandles | Then::QuandlesAnd(_) => true,
@@ -90,7 +86,7 @@ impl Then {
         }
     }
 
-    /// The part that may begin behind so many quandles.
+    /// The part that may begin after so many quandles.
     fn part(self, quandles: usize) -> Option<Part> {
         match self {
             Then::QuandlesAnd(Part::LargeCocycle) | Then::QuandleAnd(_) if quandles < 1 => None,
@@ -139,17 +135,20 @@ impl fmt::Display for Limits {
                     f,
                     "by a table in evidence by numbers at most {MAX_LARGE_ORDER} without `shadow`, a diagram at most {MAX_SIZE} seeds, "
                 )?;
-                write!(f, "a modulus or a number of a move is at most {MAX_BYTE}, ")
+                write!(
+                    f,
+                    "a modulus or a number of a move is at most {MAX_PLACE}, "
+                )
             }
             Part::Moves => write!(
                 f,
-                "a number of a move is at most {MAX_BYTE}, a quandle has at most {MAX_ORDER} elements, a diagram at most {MAX_SIZE} columns, "
+                "a number of a move is at most {MAX_PLACE}, a quandle has at most {MAX_ORDER} elements, a diagram at most {MAX_SIZE} columns, "
             ),
             Part::Steps => write!(
                 f,
-                "a number of a step is at most {MAX_BYTE}, a letter at most {MAX_LETTER}, "
+                "a number of a step is at most {MAX_PLACE}, a letter at most {MAX_LETTER}, "
             ),
-            Part::Cocycle => write!(f, "the modulus is at most {MAX_BYTE}, "),
+            Part::Cocycle => write!(f, "the modulus is at most {MAX_MODULUS}, "),
             Part::LargeCocycle => {
                 write!(
                     f,
@@ -157,7 +156,7 @@ impl fmt::Display for Limits {
                 )?;
                 write!(
                     f,
-                    "by a table without `shadow` at most {MAX_LARGE_ORDER}, the modulus is at most {MAX_BYTE}, "
+                    "by a table without `shadow` at most {MAX_LARGE_ORDER}, the modulus is at most {MAX_MODULUS}, "
                 )
             }
         }?;

@@ -31,7 +31,7 @@ const NO_NUMBER: &str = "an option has a number that can't be read";
 const ONCE: &str =
     "standard input would be read twice: `-` stands for one file only, and a problem that isn't named is read from there too";
 
-/// What is told on standard error beside what is wrong.
+/// What is reported on standard error beside what is wrong.
 #[derive(Clone, Copy, Debug, PartialEq, Eq)]
 pub enum Talk {
     /// Nothing.
@@ -42,7 +42,7 @@ pub enum Talk {
     Progress,
 }
 
-/// What is to be compared, by which bounds, and where to the verdict goes.
+/// What is to be compared, within which bounds, and where the verdict goes.
 #[derive(Drop)]
 pub struct Asked<'a> {
     pub diagrams: Diagrams<'a>,
@@ -50,7 +50,7 @@ pub struct Asked<'a> {
     pub quandles: Vec<&'a str>,
     /// The files of quandles with cocycles.
     pub weights: Vec<&'a str>,
-    /// The file that is written; standard output without one, which `-` stands for too.
+    /// The file that is written; without one, or with `-`, it is standard output.
     pub out: Option<&'a str>,
     pub seed: u64,
     pub steps: u64,
@@ -69,9 +69,9 @@ struct Numbers {
     workers: u32,
 }
 
-/// What the words ask for, by which standard input is read once at most. Else the text for whoever wrote them: what is wrong with them,
-/// the help, or the version. An error comes only where the words ask for one of these two, or for nothing that can be done, or memory is
-/// wanting. `words[0]` is the program's name.
+/// What the words ask for, which reads standard input once at most. Otherwise a text for whoever wrote them: what is wrong with them,
+/// the help, or the version. An error comes only if the words ask for one of these two, or for nothing that can be done, or if memory
+/// runs out. `words[0]` is the program's name.
 pub fn read_words<'a>(alloc: Global, words: &'a [String]) -> Result<Asked<'a>, Error>
     ensures asks { IfOk result (λ asked. AsksOfSeek (texts_of words.entry.now) asked) }
     ensures shown { IfErr result (λ e. IsHelpOrVersion (kind_of e) → AskForText (texts_of words.entry.now)) }
@@ -210,7 +210,7 @@ fn number(matches: &ArgMatches, name: &str) -> Option<u32>
     matches.get_one(name)
 }
 
-/// What is told on standard error.
+/// What is reported on standard error.
 fn talk_of(matches: &ArgMatches) -> Talk
     ensures { IsTalkBy (one_text (found_of matches.now) (codes "quiet")) (one_text (found_of matches.now) (codes "progress")) result }
 {

@@ -10,7 +10,7 @@ use clap::builder::ValueParser;
 use clap::{Arg, ArgAction, Command};
 use std::alloc::{AllocError, Global};
 
-/// The version that `--version` tells.
+/// The version that `--version` prints.
 pub const VERSION: &str = "1.0";
 
 /// What the program is for.
@@ -175,7 +175,7 @@ fn no_weights_arg<'a>(alloc: Global) -> Arg<'a>
     flag_arg(
         alloc,
         NO_WEIGHTS,
-        "Count by no file of --weights, nor by the list that stands for it where none is named",
+        "Count without cocycles: ignore --weights, and the list that is used if no file is named",
     )
 }
 
@@ -228,16 +228,16 @@ fn workers_arg<'a>(alloc: Global) -> Arg<'a>
     number_arg(alloc, WORKERS, parser, "1", help)
 }
 
-/// Whether it is told how far the search is.
+/// Whether it is reported how far the search is.
 fn progress_arg<'a>(alloc: Global) -> Arg<'a>
     ensures rule { rule_of result ≡ flag_rule (codes "progress") }
     ensures local { result.global ≡ false }
 {
-    let help = "Tell on standard error how far the search is, even where that is no terminal";
+    let help = "Report on standard error how far the search is, even if that is no terminal";
     flag_arg(alloc, PROGRESS, help)
 }
 
-/// Whether nothing is told but what is wrong.
+/// Whether nothing is reported but what is wrong.
 fn quiet_arg<'a>(alloc: Global) -> Arg<'a>
     ensures rule { rule_of result ≡ flag_rule (codes "quiet") }
     ensures local { result.global ≡ false }
@@ -245,7 +245,7 @@ fn quiet_arg<'a>(alloc: Global) -> Arg<'a>
     flag_arg(
         alloc,
         QUIET,
-        "Tell nothing on standard error but what is wrong",
+        "Report nothing on standard error except what is wrong",
     )
 }
 

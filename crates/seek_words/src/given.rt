@@ -30,7 +30,7 @@ pub enum Diagrams<'a> {
     Pair(Given<'a>, Given<'a>),
 }
 
-/// The diagrams that the words name, in the order in which they stand there; None where they are too few or too many, or one that is
+/// The diagrams that the words name, in the order in which they come there; None where they are too few or too many, or one that is
 /// no file. Without any, the problem comes from standard input.
 pub(crate) fn diagrams_of<'a>(
     alloc: Global,
@@ -119,7 +119,7 @@ impl Way {
     }
 }
 
-/// Appends the values of an argument with their places. One without a place, which `clap` doesn't give, stands last.
+/// Appends the values of an argument with their places. One without a place, which `clap` doesn't give, comes last.
 fn push_placed<'a>(
     alloc: Global,
     placed: &mut Vec<Placed<'a>>,

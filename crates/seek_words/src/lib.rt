@@ -1,4 +1,4 @@
-//! The words of the seeker's command line, read by `clap`: which diagrams, by which bounds, and where to.
+//! The words of the seeker's command line, read by `clap`: which diagrams, within which bounds, and where the verdict goes.
 #![tactic(auto)]
 
 mod asked;

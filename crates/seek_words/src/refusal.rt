@@ -5,24 +5,24 @@ use clap::Error;
 use clap::error::ErrorKind;
 use std::alloc::{AllocError, Global};
 
-/// With what a line begins that names an option there isn't.
+/// How a line begins that names an option that doesn't exist.
 const NO_OPTION: &str = "error: unexpected argument '-";
 
-/// With what a line begins that gives a tip.
+/// How a line begins that gives a tip.
 const TIP: &str = "  tip: ";
 
-/// With what one begins that names an option like it.
+/// How a tip begins that names a similar option.
 const LIKE: &str = "  tip: a similar argument exists: '-";
 
-/// What is said of a number below 0 behind an option, or of a braid without quotes.
+/// What is said of a number below 0 after an option, or of a braid without quotes.
 const BELOW_ZERO: &str =
-    "no option takes a number below 0, and a braid stands in quotes, as --braid \"2 -1 -1\"";
+    "no option takes a number below 0, and a braid is written in quotes, as --braid \"2 -1 -1\"";
 
 /// What is said of files that are too many: letters of a braid, as a rule.
-const QUOTES: &str = "a braid stands in quotes, as --braid \"2 1 1 1\"";
+const QUOTES: &str = "a braid is written in quotes, as --braid \"2 1 1 1\"";
 
-/// What is said of words that are refused, in lines. Of the tips of `clap` no other is among them than an option that begins with the same
-/// letter as the one that there isn't.
+/// What is said of words that are refused, in lines. Of the tips of `clap` only one is kept: that of an option that begins with the same
+/// letter as the one that doesn't exist.
 pub fn refusal_text(alloc: Global, error: &Error) -> Result<String, AllocError> {
     let text = format!(in alloc; "{error}")?;
     let mut said = String::new(alloc);

@@ -7,7 +7,7 @@ use cert_check::Why;
 pub enum TableRuling {
     /// The table holds.
     Accepted,
-    /// It does not, and this is the first cause.
+    /// The table does not hold, and this is the first cause.
     Rejected(TableCause),
 }
 

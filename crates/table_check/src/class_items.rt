@@ -7,7 +7,7 @@ use crate::heads::how_many;
 use evidence_core::Block;
 use grid_core::Rows;
 use memory_core::Items;
-use number_text::{count_of, numbers_at, seeds_at};
+use number_text::{count_of, numbers_line_at, seeds_at};
 use std::alloc::Global;
 use text_items::TextFault;
 use text_items::reading::{last_count, next_line, word};
@@ -30,7 +30,7 @@ fn numbers_item(alloc: Global, due: u8, lines: &mut Lines) -> Result<Option<Item
     ensures { Gives (λ c. (c, lines.new)) result (numbers_item due lines.old) }
 {
     let mut line = next_line(lines)?;
-    let list = numbers_at(alloc, due, &mut line)?;
+    let list = numbers_line_at(alloc, due, &mut line)?;
     Ok(Some(Items::from_vec(list)))
 }
 

@@ -89,7 +89,7 @@ fn blocks_item(alloc: Global, lines: &mut Lines) -> Result<Vec<Block>, TextFault
     block_items(alloc, few, lines)
 }
 
-/// A table of knots, after its head line. Else the fault of the first bad line, or an error if memory runs out. The class of each row is one of the table's.
+/// A table of knots, after its head line. Otherwise the fault of the first bad line, or `OutOfMemory`. The class of each row is one of the table's.
 #[tactic(auto, unfolding(crate::specs::Tables::table_in))]
 pub fn read_table(alloc: Global, bytes: &[u8]) -> Result<KnotTable, TextFault>
     ensures read { Gives (λ t. t) result (knot_table_of bytes.now) }

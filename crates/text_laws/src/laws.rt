@@ -160,7 +160,7 @@ pub fn rows_are_each_number_once()
 {}
 
 /// An item fails by its first line, where that is no line of its kind, else by what this line asks for after it: the other
-/// line of a grid, so many moves, steps or lines of colours, the lines of a table, or after `certificate` the verdict. Its form,
+/// line of a grid, as many moves, steps or lines of colours, the lines of a table, or after `certificate` the verdict. Its form,
 /// limits and content are those of `LineKinds`.
 pub fn an_item_fails_by_its_first_line_first()
     ensures grid { BeginsBy x_kind (λ tokens text. lines_fault (o_kind (row_values tokens)) 1 text) grid_item }

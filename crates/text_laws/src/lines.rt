@@ -31,8 +31,8 @@ pub fn written_lines_are_read()
         } }
 {}
 
-/// A number of at most `MAX_DIGITS` digits has one spelling, which is read as this number; every longer one is overlong. Read
-/// is what has a digit, has nothing else, and has no 0 in front of another.
+/// A number of at most `MAX_DIGITS` digits has one spelling, which is read as this number; every longer one is overlong. A token
+/// is read as a number if it has only digits, at least one, and no 0 in front of another.
 pub fn a_number_has_one_spelling()
     ensures read { (n : ℕ) → n < 10 ^ MAX_DIGITS → number_of (decimal n) ≡ Some n }
     ensures only { (token : List ℕ) (n : ℕ) → number_of token ≡ Some n → n < 10 ^ MAX_DIGITS → token ≡ decimal n }

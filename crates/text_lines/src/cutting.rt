@@ -30,7 +30,7 @@ fn blank_place(bytes: &[u8]) -> Option<usize>
         .position(|byte| *byte == b' ' || *byte == b'\t')
 }
 
-/// How many bytes stand before the first line feed.
+/// How many bytes are before the first line feed.
 fn line_len(bytes: &[u8]) -> usize
     ensures len { result ≡ position_or_len is_feed bytes.now }
     ensures within { result ≤ length bytes.now }
@@ -41,7 +41,7 @@ fn line_len(bytes: &[u8]) -> usize
     }
 }
 
-/// How many bytes stand before the first blank.
+/// How many bytes are before the first blank.
 fn token_len(bytes: &[u8]) -> usize
     ensures len { result ≡ position_or_len is_blank bytes.now }
     ensures within { result ≤ length bytes.now }
@@ -62,7 +62,7 @@ fn behind_first(bytes: &[u8]) -> &[u8]
     }
 }
 
-/// The first line without its line feed, and the bytes behind it.
+/// The first line without its line feed, and the bytes after it.
 pub(crate) fn cut_line(bytes: &[u8]) -> (&[u8], &[u8])
     ensures line { result.0.now ≡ first_line bytes.now }
     ensures rest { result.1.now ≡ behind_line bytes.now }
@@ -71,7 +71,7 @@ pub(crate) fn cut_line(bytes: &[u8]) -> (&[u8], &[u8])
     (line, behind_first(rest))
 }
 
-/// The first token of bytes that begin with it, and the bytes behind it.
+/// The first token of bytes that begin with it, and the bytes after it.
 pub(crate) fn cut_token(bytes: &[u8]) -> (&[u8], &[u8])
     ensures token { result.0.now ≡ first_token bytes.now }
     ensures rest { result.1.now ≡ behind_token bytes.now }
@@ -79,7 +79,7 @@ pub(crate) fn cut_token(bytes: &[u8]) -> (&[u8], &[u8])
     bytes.split_at(token_len(bytes))
 }
 
-/// The line without the carriage return that may stand at its end.
+/// The line without the carriage return that may be at its end.
 pub(crate) fn trimmed(line: &[u8]) -> &[u8]
     ensures { result.now ≡ trimmed line.now }
 {

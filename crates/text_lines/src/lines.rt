@@ -8,7 +8,7 @@ use std::marker::Model;
 
 /// The lines that are left of a text, which contracts see as a `Text`: its numbered lines, and where it ends.
 ///
-/// Lines are cut at line feeds, the last of which may be wanting. One carriage return at the end of a line is dropped.
+/// Lines are cut at line feeds, the last of which may be missing. One carriage return at the end of a line is dropped.
 /// A line of nothing but spaces and tabs, and one whose first other byte is a `#`, is counted and passed over.
 #[derive(Drop)]
 pub struct Lines<'a> {
@@ -68,7 +68,7 @@ impl<'a> Lines<'a> {
         }
     }
 
-    /// The number of all lines of the text plus one: the line at which something is wanting where the text ends.
+    /// The number of all lines of the text plus one: the line at which something is missing where the text ends.
     pub fn ending(&self) -> usize
         ensures { result ≡ self.now.ending }
     {

@@ -7,7 +7,7 @@ ghost use Rattle.text_lines.specs.NumberTokens.{is_digit, is_number, number_of};
 /// How many digits a number may have: one of more exceeds a limit.
 pub const MAX_DIGITS: usize = 9;
 
-/// What stands for each number of more than `MAX_DIGITS` digits.
+/// What represents each number of more than `MAX_DIGITS` digits.
 pub const OVERLONG: u32 = u32::MAX;
 
 /// The number that a token writes: `0`, or a digit from 1 to 9 and any digits; `None` exactly where it has another form.

@@ -1,5 +1,5 @@
 //! Lines of words and numbers, written at the end of a text.
-//! Where memory is wanting, the first bytes of a line may stand behind the old text, and nothing else.
+//! If memory runs out, the first bytes of a line may have been appended, and nothing else.
 #![tactic(auto, using(crate::proofs::Parts::part_ahead, crate::proofs::Parts::part_behind, crate::proofs::Parts::last_behind, crate::proofs::Parts::last_bytes, crate::proofs::Parts::on_err))]
 
 ghost use Rattle.std.specs.Prelude.{◌≡◌, ◌++◌, ◌∷◌, codes, map, OnOk, OnErr};
@@ -11,7 +11,7 @@ ghost use Rattle.text_lines.specs.Appended.{AppendsPart};
 use itoa::Buffer;
 use std::alloc::AllocError;
 
-/// Appends a number in decimal, without leading zeros. Where memory is wanting, a part of it may have been appended.
+/// Appends a number in decimal, without leading zeros. If memory runs out, a part of it may have been appended.
 pub fn push_number(out: &mut Vec<u8>, number: u64) -> Result<(), AllocError>
     ensures text { OnOk result (out.new.items ≡ out.old.items ++ decimal number) }
     ensures part { OnErr result (AppendsPart out.old.items out.new.items (decimal number)) }
@@ -32,7 +32,7 @@ fn push_small(out: &mut Vec<u8>, number: u8) -> Result<(), AllocError>
     push_number(out, u64::from(number))
 }
 
-/// Appends numbers, each behind a space.
+/// Appends numbers, each after a space.
 fn push_spaced(out: &mut Vec<u8>, numbers: &[u8]) -> Result<(), AllocError>
     ensures text { OnOk result (out.new.items ≡ out.old.items ++ flat_map (λ n. spaced (decimal n)) numbers.now) }
     ensures part { OnErr result (AppendsPart out.old.items out.new.items (flat_map (λ n. spaced (decimal n)) numbers.now)) }
@@ -45,7 +45,7 @@ fn push_spaced(out: &mut Vec<u8>, numbers: &[u8]) -> Result<(), AllocError>
 }
 
 /// Appends a line of a word and numbers, with one space between them.
-/// Where memory is wanting, a part of it may have been appended.
+/// If memory runs out, a part of it may have been appended.
 pub fn push_word_line(out: &mut Vec<u8>, word: &[u8], numbers: &[u8]) -> Result<(), AllocError>
     ensures text { OnOk result (out.new.items ≡ out.old.items ++ line_text (word.now ∷ map decimal numbers.now)) }
     ensures part { OnErr result (AppendsPart out.old.items out.new.items (line_text (word.now ∷ map decimal numbers.now))) }
@@ -70,7 +70,7 @@ fn push_numbers(out: &mut Vec<u8>, numbers: &[u8]) -> Result<(), AllocError>
 }
 
 /// Appends a line of numbers, with one space between them.
-/// Where memory is wanting, a part of it may have been appended.
+/// If memory runs out, a part of it may have been appended.
 pub fn push_number_line(out: &mut Vec<u8>, numbers: &[u8]) -> Result<(), AllocError>
     ensures text { OnOk result (out.new.items ≡ out.old.items ++ line_text (map decimal numbers.now)) }
     ensures part { OnErr result (AppendsPart out.old.items out.new.items (line_text (map decimal numbers.now))) }
@@ -80,7 +80,7 @@ pub fn push_number_line(out: &mut Vec<u8>, numbers: &[u8]) -> Result<(), AllocEr
 }
 
 /// Appends words, of which the last ends with a space, and a number that ends the line.
-/// Where memory is wanting, a part of it may have been appended.
+/// If memory runs out, a part of it may have been appended.
 pub fn push_counted(out: &mut Vec<u8>, words: &[u8], number: u64) -> Result<(), AllocError>
     ensures text { OnOk result (out.new.items ≡ out.old.items ++ (words.now ++ (decimal number ++ codes "\n"))) }
     ensures part { OnErr result (AppendsPart out.old.items out.new.items (words.now ++ (decimal number ++ codes "\n"))) }
@@ -91,7 +91,7 @@ pub fn push_counted(out: &mut Vec<u8>, words: &[u8], number: u64) -> Result<(), 
 }
 
 /// Appends words, of which the last ends with a space, and two numbers that end the line.
-/// Where memory is wanting, a part of it may have been appended.
+/// If memory runs out, a part of it may have been appended.
 pub fn push_paired(
     out: &mut Vec<u8>,
     words: &[u8],

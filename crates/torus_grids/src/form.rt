@@ -14,7 +14,7 @@ const WORDS: usize = (MAX_SIZE + COLUMNS - 1) / COLUMNS;
 /// translates have one form. It is a name for the walks alone, and costs less than the canonical form, which grids are named by.
 #[derive(Clone, Copy, PartialEq, Eq, Hash)]
 pub struct Form {
-    /// The columns' marks, four columns in a word. The size stands in the place of the first X, which is in row 0.
+    /// The columns' marks, four columns in a word. The size takes the place of the first X, which is in row 0.
     words: [u64; WORDS],
 }
 

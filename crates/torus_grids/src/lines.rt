@@ -7,13 +7,13 @@ use grid_keys::BASE;
 use std::simd::prelude::*;
 
 /// More than there are columns or rows. Before a number is an index it is taken modulo this power of two: so no list is read or written
-/// outside, whatever stands in it, and this costs next to nothing.
+/// outside, whatever is in it, and this costs next to nothing.
 pub(crate) const PLACES: usize = BASE as usize;
 
 /// How many lines are looked at at once.
 const LANES: usize = 16;
 
-/// The room of a list: behind the places there is some, so that the next lines of the last sixteen can be read.
+/// The room of a list: after the places there is some, so that the next lines of the last sixteen can be read.
 const ROOM: usize = PLACES + LANES;
 
 /// The two marks of a column, by their rows, or of a row, by their columns.
@@ -23,7 +23,7 @@ pub(crate) struct Marks {
     pub(crate) ring: u8,
 }
 
-/// The marks of the columns, or of the rows. Behind the last one the first one stands again.
+/// The marks of the columns, or of the rows. After the last one comes the first one again.
 #[derive(Clone, Copy, PartialEq, Eq)]
 pub(crate) struct Lines {
     crosses: [u8; ROOM],
@@ -85,7 +85,7 @@ impl Lines {
         self.rings[marks.ring as usize % PLACES] = line;
     }
 
-    /// Writes the first line again behind the last one.
+    /// Writes the first line again after the last one.
     pub(crate) fn close(&mut self, size: u8) {
         let first = self.marks(0);
         self.set(size, first);

@@ -236,7 +236,7 @@ impl Torus {
         true
     }
 
-    /// The columns where one more row is put in at a place, with room for one more column behind the given one.
+    /// The columns where one more row is put in at a place, with room for one more column after the given one.
     fn widened(&self, column: u8, row: u8) -> Lines {
         let mut columns = Lines::none();
         for from in 0..self.size {

@@ -12,8 +12,8 @@ ghost use Rattle.verdict_laws.specs.VerdictDecision.{IsDecisionByVerdict, IsByWr
 use knot_text::Version;
 use quandle_laws::lists::no_more_colourings_than_choices;
 
-/// The quandles of a problem that was read have texts. A verdict that holds of its diagrams, whoever found it, by moves or by a quandle
-/// that has a text, whose moves, if any, are a tidy list, is as it is printed a decision on the input: it is true, and accepted
+/// The quandles of a problem that was read have texts. If a verdict holds of its diagrams, by moves or by a quandle that has a text, and its
+/// moves, if any, are a tidy list, its printed text is a decision on the input, whoever found it: it is true, and accepted
 /// after the input.
 pub fn a_verdict_that_holds_is_a_decision()
     ensures quandles { (bytes : List ℕ) (problem : ProblemText) → problem_of bytes ≡ Ok problem → AllByRecursion HasQuandleText problem.quandles }

@@ -1,4 +1,4 @@
-//! Laws of what is ruled on a verdict, on evidence by numbers or on a table of knots, over definitions alone; and of decisions:
+//! Laws of the rulings on a verdict, on evidence by numbers or on a table of knots, over definitions alone; and of decisions:
 //! whoever found a verdict whose evidence holds has found what is true of the diagrams that were read, and accepted after them.
 #![tactic(auto)]
 

@@ -20,7 +20,7 @@ pub fn a_name_but_table_has_one_quandle()
         → (quandle_named name ≡ Some q) ↔ ((name ≢ QuandleName.Table) × ((q.name ≡ name) × Names name q.table)) }
 {}
 
-/// Evidence that holds is there.
+/// A verdict that holds has evidence.
 pub fn what_holds_has_evidence()
     ensures { (d e : Diagram) (verdict : Verdict) → VerdictHolds d e verdict → HasEvidence verdict }
 {}

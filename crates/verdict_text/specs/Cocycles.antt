@@ -11,6 +11,7 @@ use Rattle.text_items.specs.Modulus.{modulus_at}
 use Rattle.text_items.specs.NumberLines.{numbers_below}
 use Rattle.text_items.specs.Quandles.{table_rows}
 
+-- the numbers of a table, whether or not they have the laws of a cocycle
 abbrev pub cochain : Table → ℕ → List ℕ → Cochain
 cochain quandle modulus entries = record { quandle = quandle; modulus = modulus; entries = entries }
 

@@ -8,11 +8,13 @@ use Rattle.text_items.specs.Reading.{◌>>=◌}
 use Rattle.text_items.specs.Grids.{grid_item}
 use Rattle.text_items.specs.Braids.{braid_item}
 
+-- a braid, as a diagram
 abbrev pub braid_diagram : Text → Result (Diagram × Text) TextFault
 braid_diagram text = do
   braid ← braid_item text
   Ok (Braid braid.0, braid.1)
 
+-- a grid, as a diagram
 abbrev pub grid_diagram : Text → Result (Diagram × Text) TextFault
 grid_diagram text = do
   grid ← grid_item text

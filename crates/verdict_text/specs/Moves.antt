@@ -35,16 +35,19 @@ on_axis columns rows line = do
       else if bytes_eq axis.0 (codes "rows") then one_place rows axis.1
       else Err (Malformed axis.1.number)
 
--- what stands behind these words
+-- columns or rows, behind `shift`
 unfoldable pub shift : NumberedLine → Result Move TextFault
 shift line = on_axis (λ k. ShiftColumns k) (λ k. ShiftRows k) line
 
+-- columns or rows, behind `exchange`
 unfoldable pub exchange : NumberedLine → Result Move TextFault
 exchange line = on_axis (λ c. ExchangeColumns c) (λ r. ExchangeRows r) line
 
+-- columns or rows, behind `slide`
 unfoldable pub slide : NumberedLine → Result Move TextFault
 slide line = on_axis (λ c. SlideColumns c) (λ r. SlideRows r) line
 
+-- the kind of a mark
 unfoldable pub kind_at : NumberedLine → Result (Kind × NumberedLine) TextFault
 kind_at line = do
   name ← next_token line
@@ -52,6 +55,7 @@ kind_at line = do
       else if bytes_eq name.0 (codes "o") then Ok (Ring, name.1)
       else Err (Malformed name.1.number)
 
+-- a corner of a block
 unfoldable pub corner_at : NumberedLine → Result (Corner × NumberedLine) TextFault
 corner_at line = do
   name ← next_token line
@@ -91,6 +95,7 @@ move_at line = do
       else if bytes_eq name.0 (codes "destabilise") then destabilise name.1
       else Err (Malformed name.1.number)
 
+-- the next move line
 unfoldable pub next_move : Text → Result (Move × Text) TextFault
 next_move text = do
   line ← next_line text
@@ -107,6 +112,7 @@ tidy_move_at before line = do
   move ← move_at line
   if may_follow before move then Ok move else Err (Malformed line.number)
 
+-- the next move line of a tidy list, behind a move or none
 unfoldable pub tidy_move : Option Move → Text → Result (Move × Text) TextFault
 tidy_move before text = do
   line ← next_line text

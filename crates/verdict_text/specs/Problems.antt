@@ -33,9 +33,10 @@ check_in text = do
   end ← text_end verdict.1
   Ok (problem.0, verdict.0)
 
--- the same of bytes
+-- a problem, from the bytes of a text
 abbrev pub problem_of : List ℕ → Result ProblemText TextFault
 problem_of bytes = problem_in (text_of bytes)
 
+-- a problem and a verdict on its diagrams, from the bytes of a text
 abbrev pub check_of : List ℕ → Result (ProblemText × Verdict) TextFault
 check_of bytes = check_in (text_of bytes)

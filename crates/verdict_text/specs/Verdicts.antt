@@ -55,11 +55,13 @@ different_at first second line text = do
   two ← list_item second quandle.0.table.order one.1
   Ok (Different quandle.0 one.0 two.0, two.1)
 
+-- a budget, behind `unknown budget`
 unfoldable pub budget_at : NumberedLine → Result Verdict TextFault
 budget_at line = do
   budget ← last_count line
   Ok (UnknownBudget budget)
 
+-- a cap and a number of diagrams, behind `unknown exhausted`
 unfoldable pub exhausted_at : NumberedLine → Result Verdict TextFault
 exhausted_at line = do
   cap ← number line
@@ -76,6 +78,7 @@ unknown_at line = do
       else if bytes_eq cause.0 (codes "exhausted") then exhausted_at cause.1
       else Err (Malformed cause.1.number)
 
+-- a verdict `unknown`, which takes no line behind its own
 unfoldable pub unknown_item : NumberedLine → Text → Result (Verdict × Text) TextFault
 unknown_item line text = do
   verdict ← unknown_at line
@@ -111,6 +114,7 @@ tidy_item first second text = do
   verdict ← verdict_of Tidy first second line.1
   Ok ((Tidy, verdict.0), verdict.1)
 
+-- a verdict of the first version, which has no head line
 unfoldable pub plain_item : ℕ → ℕ → Text → Result ((Version × Verdict) × Text) TextFault
 plain_item first second text = do
   verdict ← verdict_of Plain first second text

@@ -11,7 +11,7 @@ use text_items::rows::{number_row, table_front};
 use text_items::{TextFault, modulus_at};
 use text_lines::Lines;
 
-/// A cocycle of a quandle. Else the fault of the first bad line, or want of memory.
+/// A cocycle of a quandle. Otherwise the fault of the first bad line, or `OutOfMemory`.
 #[tactic(auto, unfolding(crate::specs::Cocycles::cocycle_item))]
 pub fn cocycle_item(
     alloc: Global,

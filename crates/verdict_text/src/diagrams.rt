@@ -8,7 +8,7 @@ use text_items::{TextFault, braid_item, grid_item};
 use text_lines::Lines;
 use verdict_core::Diagram;
 
-/// A braid where a line that begins with `braid` is next, else a grid. Takes memory for the letters of a braid alone.
+/// A braid where a line that begins with `braid` is next, else a grid; or the fault of the first bad line. Only letters of a braid take memory.
 #[tactic(auto, unfolding(crate::specs::Diagrams::diagram_item))]
 pub fn diagram_item(alloc: Global, lines: &mut Lines) -> Result<Diagram, TextFault>
     ensures { Gives (λ d. (d, lines.new)) result (diagram_item lines.old) }

@@ -10,7 +10,7 @@ use text_items::rows::{number_row, table_front};
 use text_items::{TextFault, modulus_at};
 use text_lines::Lines;
 
-/// A cocycle of a quandle of up to `MAX_LARGE_ORDER` colours. Else the fault of the first bad line, or want of memory.
+/// A cocycle of a quandle of up to `MAX_LARGE_ORDER` colours. Otherwise the fault of the first bad line, or `OutOfMemory`.
 #[tactic(auto, unfolding(crate::specs::Cocycles::cocycle_item))]
 pub fn large_cocycle_item(
     alloc: Global,
@@ -21,12 +21,12 @@ pub fn large_cocycle_item(
 {
     let mut line = next_line(lines)?;
     let modulus = modulus_at(&mut line)?;
-    cochain_item(alloc, quandle, modulus, lines)
+    large_cochain_item(alloc, quandle, modulus, lines)
 }
 
 /// The lines of a table of numbers below the modulus, which has the laws of a cocycle, or is malformed at its last line.
 #[tactic(auto, unfolding(crate::specs::Cocycles::cochain_item))]
-fn cochain_item(
+fn large_cochain_item(
     alloc: Global,
     quandle: &Operations,
     modulus: u8,

@@ -13,7 +13,7 @@ use text_items::reading::{
 };
 use text_lines::{Line, Lines};
 
-/// The one place of a move that ends its line.
+/// The one place of a move that ends its line. Otherwise the fault of the line.
 #[tactic(auto, unfolding(crate::specs::Moves::last_place))]
 pub fn last_place(line: &mut Line) -> Result<u8, TextFault>
     ensures { Gives (λ n. n) result (last_place line.old) }
@@ -22,7 +22,7 @@ pub fn last_place(line: &mut Line) -> Result<u8, TextFault>
     place(line, value)
 }
 
-/// Columns or rows, behind `shift`.
+/// Columns or rows, after `shift`.
 #[tactic(auto, unfolding(crate::specs::Moves::shift))]
 fn shift(line: &mut Line) -> Result<Move, TextFault>
     ensures { Gives (λ m. m) result (shift line.old) }
@@ -39,7 +39,7 @@ fn shift(line: &mut Line) -> Result<Move, TextFault>
     }
 }
 
-/// Columns or rows, behind `exchange`.
+/// Columns or rows, after `exchange`.
 #[tactic(auto, unfolding(crate::specs::Moves::exchange))]
 fn exchange(line: &mut Line) -> Result<Move, TextFault>
     ensures { Gives (λ m. m) result (exchange line.old) }
@@ -56,7 +56,7 @@ fn exchange(line: &mut Line) -> Result<Move, TextFault>
     }
 }
 
-/// Columns or rows, behind `slide`.
+/// Columns or rows, after `slide`.
 #[tactic(auto, unfolding(crate::specs::Moves::slide))]
 fn slide(line: &mut Line) -> Result<Move, TextFault>
     ensures { Gives (λ m. m) result (slide line.old) }
@@ -111,7 +111,7 @@ fn corner_at(line: &mut Line) -> Result<Corner, TextFault>
     }
 }
 
-/// A column, a kind of mark and a corner, behind `stabilise`.
+/// A column, a kind of mark and a corner, after `stabilise`.
 #[tactic(auto, unfolding(crate::specs::Moves::stabilise))]
 fn stabilise(line: &mut Line) -> Result<Move, TextFault>
     ensures { Gives (λ m. m) result (stabilise line.old) }
@@ -127,7 +127,7 @@ fn stabilise(line: &mut Line) -> Result<Move, TextFault>
     })
 }
 
-/// A column and a row, behind `destabilise`.
+/// A column and a row, after `destabilise`.
 #[tactic(auto, unfolding(crate::specs::Moves::destabilise))]
 fn destabilise(line: &mut Line) -> Result<Move, TextFault>
     ensures { Gives (λ m. m) result (destabilise line.old) }
@@ -172,7 +172,7 @@ fn next_move(lines: &mut Lines) -> Result<Move, TextFault>
     move_at(&mut line)
 }
 
-/// So many moves, a line each.
+/// `count` moves, a line each. Otherwise the fault of the first bad line, or `OutOfMemory`.
 pub fn move_lines(alloc: Global, count: u32, lines: &mut Lines) -> Result<Vec<Move>, TextFault>
     ensures { Gives (λ v. (v.items, lines.new)) result (move_lines count lines.old) }
 {
@@ -206,7 +206,7 @@ fn tidy_move(before: Option<Move>, lines: &mut Lines) -> Result<Move, TextFault>
     tidy_move_at(before, &mut line)
 }
 
-/// So many moves of a tidy list, a line each.
+/// `count` moves of a tidy list, a line each. Otherwise the fault of the first bad line, or `OutOfMemory`.
 pub fn tidy_moves(alloc: Global, count: u32, lines: &mut Lines) -> Result<Vec<Move>, TextFault>
     ensures { Gives (λ v. (v.items, lines.new)) result (tidy_moves None count lines.old) }
 {
@@ -220,7 +220,7 @@ pub fn tidy_moves(alloc: Global, count: u32, lines: &mut Lines) -> Result<Vec<Mo
     Ok(moves)
 }
 
-/// The item `moves`.
+/// The item `moves`: their number, and as many moves. Otherwise the fault of the first bad line, or `OutOfMemory`.
 #[tactic(auto, unfolding(crate::specs::Moves::moves_item))]
 pub fn moves_item(alloc: Global, lines: &mut Lines) -> Result<Vec<Move>, TextFault>
     ensures { Gives (λ v. (v.items, lines.new)) result (moves_item lines.old) }

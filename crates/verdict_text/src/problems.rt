@@ -1,4 +1,4 @@
-//! Problems, alone and with a verdict behind them.
+//! Problems, alone and followed by a verdict.
 ghost use Rattle.std.specs.Prelude.{◌≡◌};
 ghost use Rattle.text_items.specs.Reading.{Gives};
 ghost use Rattle.verdict_text.specs.Problems.{problem_item, problem_of, check_of};
@@ -12,9 +12,9 @@ use text_lines::Lines;
 use verdict_core::{ProblemText, Verdict};
 
 /// The problem that a text states: two diagrams, and any number of quandles. Without a quandle item the built-in list
-/// stands: the trivial one of order 2, the dihedral one of order 3, the tetrahedral one, the dihedral ones of order 5 and 7.
+/// is taken: the trivial one of order 2, the dihedral one of order 3, the tetrahedral one, the dihedral ones of order 5 and 7.
 ///
-/// Else the fault of the first bad line, or want of memory.
+/// Otherwise the fault of the first bad line, or `OutOfMemory`.
 #[tactic(auto, unfolding(crate::specs::Problems::problem_in))]
 pub fn read_problem(alloc: Global, bytes: &[u8]) -> Result<ProblemText, TextFault>
     ensures { Gives (λ p. p) result (problem_of bytes.now) }
@@ -25,7 +25,7 @@ pub fn read_problem(alloc: Global, bytes: &[u8]) -> Result<ProblemText, TextFaul
     Ok(problem)
 }
 
-/// A problem and a verdict on its two diagrams, which stands behind it. Else the fault of the first bad line, or want of memory.
+/// A problem and a verdict on its two diagrams, which follows it. Otherwise the fault of the first bad line, or `OutOfMemory`.
 #[tactic(auto, unfolding(crate::specs::Problems::check_in))]
 pub fn read_check(alloc: Global, bytes: &[u8]) -> Result<(ProblemText, Verdict), TextFault>
     ensures { Gives (λ p. p) result (check_of bytes.now) }
@@ -39,8 +39,8 @@ pub fn read_check(alloc: Global, bytes: &[u8]) -> Result<(ProblemText, Verdict),
     Ok((problem, verdict))
 }
 
-/// Two diagrams and any number of quandles, without which the built-in list stands, from the front of the lines; what stands behind
-/// them is left. Else the fault of the first bad line, or want of memory, and nothing is said of the lines.
+/// Two diagrams and any number of quandles, or the built-in list if there are none, from the front of the lines; what follows
+/// them is left. Otherwise the fault of the first bad line, or `OutOfMemory`, and nothing is proved of the lines.
 #[tactic(auto, unfolding(crate::specs::Problems::problem_item))]
 pub fn problem_item(alloc: Global, lines: &mut Lines) -> Result<ProblemText, TextFault>
     ensures { Gives (λ p. (p, lines.new)) result (problem_item lines.old) }

@@ -25,9 +25,9 @@ pub const TIDY_VERSION: u32 = 2;
 /// The two texts that a verdict has.
 #[derive(Clone, Copy, Debug, PartialEq, Eq)]
 pub enum Version {
-    /// Without a head line: any list of moves may stand in it.
+    /// Without a head line: it may have any list of moves.
     Plain,
-    /// Behind the line `certificate 2`: its list of moves is tidy.
+    /// After the line `certificate 2`: its list of moves is tidy.
     Tidy,
 }
 
@@ -184,7 +184,7 @@ fn unknown_at(line: &mut Line) -> Result<Verdict, TextFault>
     }
 }
 
-/// A verdict of a version from a line and what stands behind it, on two diagrams with so many columns.
+/// A verdict of a version from a line and what follows it, on two diagrams with so many columns.
 #[tactic(auto, unfolding(crate::specs::Verdicts::verdict_at, crate::specs::Verdicts::unknown_item))]
 fn verdict_at(
     alloc: Global,
@@ -235,7 +235,7 @@ fn version_at(line: &mut Line) -> Result<(), TextFault>
     }
 }
 
-/// A verdict of the second version, behind its head line.
+/// A verdict of the second version, after its head line.
 #[tactic(auto, unfolding(crate::specs::Verdicts::tidy_item))]
 fn tidy_item(
     alloc: Global,
@@ -279,8 +279,8 @@ fn versioned_item(
     }
 }
 
-/// A verdict of either version from the front of the lines, on two diagrams with so many columns, each at most `MAX_SIZE`; what stands
-/// behind it is left. Else the fault of the first bad line, or want of memory, and nothing is said of the lines.
+/// A verdict of either version from the front of the lines, on two diagrams with so many columns, each at most `MAX_SIZE`; what
+/// follows it is left. Otherwise the fault of the first bad line, or `OutOfMemory`, and nothing is proved of the lines.
 #[tactic(auto, unfolding(crate::specs::Verdicts::verdict_item))]
 pub fn verdict_item(
     alloc: Global,

@@ -26,7 +26,8 @@ passes p n all k lt a is =
     ap p (is ∙ sym (get_or-range_with_len 0 n k 0 lt ∙ omega arith))
     ∙ AllPass-from_list_all p (range_with_len 0 n) all k 0 (omega (arith, lt, length-range_with_len 0 n))
 
-plan_by : (d : Diagram) (steps : List Step) (last : SeedProgress) → LeadsBySteps d nothing steps last → list_all (is_known last) (range_with_len 0 (size d)) ≡ true
+plan_by : (d : Diagram) (steps : List Step) (last : SeedProgress) → LeadsBySteps d nothing steps last
+    → list_all (is_known last) (range_with_len 0 (size d)) ≡ true
     → list_all (is_read last) (range_with_len 0 (size d)) ≡ true → IsPlan d steps
 plan_by d steps last leads known read = record {
   last = last;

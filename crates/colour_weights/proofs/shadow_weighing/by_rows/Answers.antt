@@ -18,7 +18,7 @@ loop-row-preserved c =
     let some : 0 < c.args.cocycle.now.modulus = omega (arith, least) in
     let so_far = sum_by (shadow_row_weight w d f c.args.outer) (range_with_len 0 row) in
     let modulus = c.modulus-modulus.ensures.modulus in
-    let term : c.row_weight.result ≡ shadow_row_weight w d f c.args.outer row = c.row_weight.ensures.weight
+    let term : c.shadow_row_weight.result ≡ shadow_row_weight w d f c.args.outer row = c.shadow_row_weight.ensures.weight
     ∙ ap (λ l. shadow_row_weight w d l c.args.outer row) c.as_slice.ensures.value in
     let sum : c.plus-sum.result ≡ (sum_by (shadow_row_weight w d f c.args.outer) (range_with_len 0 row) % c.args.cocycle.now.modulus
     + shadow_row_weight w d f c.args.outer row)

@@ -1,5 +1,6 @@
 use Rattle.std.proofs.Common.{subst}
-use Rattle.grid_moves.specs.declared.step.Move.TheVariants.{ShiftColumns, ShiftRows, ExchangeColumns, ExchangeRows, SlideColumns, SlideRows, Stabilise, Destabilise}
+use Rattle.grid_moves.specs.declared.step.Move.TheVariants.{ShiftColumns, ShiftRows, ExchangeColumns, ExchangeRows, SlideColumns, SlideRows, Stabilise}
+use Rattle.grid_moves.specs.declared.step.Move.TheVariants.{Destabilise}
 use Rattle.grid_moves.specs.Step.{Step}
 use Rattle.grid_moves.proofs.OneResult.{answers_in_place}
 use Rattle.grid_moves.proofs.applying.apply_in_place.Goals as goal

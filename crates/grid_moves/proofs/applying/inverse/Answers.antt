@@ -1,6 +1,7 @@
 use Rattle.std.proofs.Common.{subst}
 use Rattle.grid_moves.specs.Step.{Step}
-use Rattle.grid_moves.proofs.Undone.{shift_columns_back, shift_rows_back, exchange_columns_back, exchange_rows_back, slide_columns_back, slide_rows_back, stabilise_back, destabilise_back}
+use Rattle.grid_moves.proofs.Undone.{shift_columns_back, shift_rows_back, exchange_columns_back, exchange_rows_back, slide_columns_back, slide_rows_back}
+use Rattle.grid_moves.proofs.Undone.{stabilise_back, destabilise_back}
 use Rattle.grid_moves.proofs.applying.inverse.Goals as goal
 
 pub returns-in-ShiftColumns-clause-back : goal.returns-in-ShiftColumns-clause-back

@@ -4,7 +4,7 @@ use Rattle.std.specs.List.{range_with_len}
 use Rattle.grid_core.specs.Parts.{covers}
 use Rattle.colour_weights.specs.ShadowWalkSum.{region_start}
 use Rattle.colour_weights.proofs.ByColumns.{step_at}
-use Rattle.colour_weights.proofs.shadow_walker.walked.Given as goal
+use Rattle.colour_weights.proofs.shadow_walker.shadow_walked.Given as goal
 
 abbrev pub invariant-loop-column : goal.invariant-loop-column
 invariant-loop-column l =

@@ -8,7 +8,7 @@ use Rattle.cocycle_core.specs.ShadowCocycle.{ShadowCochain}
 use Rattle.colour_weights.proofs.Longer.{fold_longer}
 use Rattle.colour_weights.specs.ShadowWalkSum.{region_start}
 use Rattle.colour_weights.proofs.ByColumns.{step_at}
-use Rattle.colour_weights.proofs.shadow_walker.walked.Goals as goal
+use Rattle.colour_weights.proofs.shadow_walker.shadow_walked.Goals as goal
 
 pub loop-column-preserved : goal.loop-column-preserved
 loop-column-preserved c =
@@ -29,8 +29,13 @@ loop-column-preserved c =
     let gap : column - from + 1 ≡ column + 1 - from = omega (arith, low) in
     let whole = ap (λ n. fold (step_at w d f) start (filter (λ c. covers d c row) (range_with_len from n))) (sym gap)
     ∙ (fold_longer (step_at w d f) start (λ c. covers d c row) from (column - from)
-    ∙ ap₂ (λ j (at : ShadowWalker). cond (covers d j row) (step_at w d f at j) at) place (sym so_far.0)) in
-    (c.past-at.ensures.past ∙ sym whole, c.past-at.ensures.below.0, c.past-at.ensures.below.1, c.past-at.ensures.below.2, omega (arith, low))
+    ∙ ap₂ (λ j (at : ShadowWalker). cond (covers d j row) (step_at w d f at j) at) place (sym so_far.0)) in (
+      c.shadow_past-at.ensures.past ∙ sym whole,
+      c.shadow_past-at.ensures.below.0,
+      c.shadow_past-at.ensures.below.1,
+      c.shadow_past-at.ensures.below.2,
+      omega (arith, low),
+    )
 
 pub loop-column-init : goal.loop-column-init
 loop-column-init c =

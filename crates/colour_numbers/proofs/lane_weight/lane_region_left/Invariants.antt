@@ -1,7 +1,7 @@
 use Rattle.std.proofs.Common.{◌≡◌, ◌<◌, ℕ, fold, take, get_or}
 use Rattle.colour_rows.specs.declared.equation.Pass.{Pass}
 use Rattle.colour_rows.specs.Walk.{passed_rightward}
-use Rattle.colour_numbers.proofs.lane_weight.region_left.Given as goal
+use Rattle.colour_numbers.proofs.lane_weight.lane_region_left.Given as goal
 
 abbrev pub invariant-loop-pass : goal.invariant-loop-pass
 invariant-loop-pass l =

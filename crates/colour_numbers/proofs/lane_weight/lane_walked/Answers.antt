@@ -5,18 +5,18 @@ use Rattle.colour_weights.specs.declared.shadow_walker.ShadowWalker.{ShadowWalke
 use Rattle.colour_numbers.specs.Lanes.{lane_region_start}
 use Rattle.colour_numbers.specs.Weighing.{walker_of}
 use Rattle.colour_numbers.proofs.Lanes.{walked_more}
-use Rattle.colour_numbers.proofs.lane_weight.walked.Goals as goal
+use Rattle.colour_numbers.proofs.lane_weight.lane_walked.Goals as goal
 
 pub loop-pass-init : goal.loop-pass-init
 loop-pass-init c =
     let order = ap (λ (t : Table). t.order) c.quandle-quandle.ensures in
     let start : ℕ → ℕ → ShadowWalker = λ x w. record { colour = x; region = w; sum = 0 } in (
       ap₂ start (ap (λ (i : ℕ). get_or c.args.colours.now i 0) c.left.ensures)
-          (c.region_start-region.ensures.region
+          (c.lane_region_start-region.ensures.region
           ∙ ap (λ (t : Table). lane_region_start t c.args.lane.now c.args.colours.now c.args.outer) c.quandle-quandle.ensures),
       All-get_or (λ y. y < c.args.cocycle.now.quandle.order) c.args.colours.now c.left.result 0 (omega (arith, c.left.ensures, c.requires.within.left))
           c.requires.below,
-      omega (arith, c.region_start-region.ensures.below, order),
+      omega (arith, c.lane_region_start-region.ensures.below, order),
       omega (arith, c.modulus-modulus.ensures.cocycle.least),
     )
 

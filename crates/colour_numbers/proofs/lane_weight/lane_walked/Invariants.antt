@@ -4,7 +4,7 @@ use Rattle.colour_weights.specs.declared.shadow_walker.ShadowWalker.{ShadowWalke
 use Rattle.colour_weights.specs.ShadowWalkSum.{shadow_stepped}
 use Rattle.colour_numbers.specs.Lanes.{lane_region_start}
 use Rattle.colour_numbers.specs.Weighing.{walker_of}
-use Rattle.colour_numbers.proofs.lane_weight.walked.Given as goal
+use Rattle.colour_numbers.proofs.lane_weight.lane_walked.Given as goal
 
 abbrev pub invariant-loop-pass : goal.invariant-loop-pass
 invariant-loop-pass l =
