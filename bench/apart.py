@@ -14,8 +14,8 @@ Two knots are distinguished where rows differ for each turn of the second: as it
 mirror image are compared, both at once. An entry that is too wide says nothing. What the table's symmetries join is the same knot, and isn't
 asked of further lists. Their rows are counted by `knot numbers`, the program of KNOT, or that which is built.
 
-By --order that block comes next which distinguishes most a millisecond of the processor of what those before it leave: of pairs of knots, knots and
-their mirror images, and knots and their reverses. The cost is the mean of `knot numbers` over twelve knots, less that for the unknot, which is
+With --order the next block is the one that distinguishes the most per millisecond of the processor of what is left by those before it: pairs of knots,
+knots and their mirror images, and knots and their reverses. The cost is the mean of `knot numbers` over twelve knots, less that for the unknot, which is
 nearly all for reading the list. An entry that is too wide counts here as one of its own. Blocks of more than 32 colours come last, as `seek`
 tries them. They are counted only for some two hundred things that the others leave, and not for symmetries of which the table knows nothing.
 """

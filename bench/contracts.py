@@ -1,5 +1,5 @@
 #!/usr/bin/env python3
-"""What the public contracts of this tree say otherwise than those of an earlier commit.
+"""How the public contracts of this tree differ from those of an earlier commit.
 
     python3 bench/contracts.py COMMIT            the differences, by function
     python3 bench/contracts.py COMMIT --counts   their numbers alone

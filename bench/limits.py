@@ -1,12 +1,12 @@
 #!/usr/bin/env python3
-"""Finds numbers that are said twice: turns three limits, MAX_SIZE, MAX_ORDER and MAX_LARGE_ORDER, in a copy, and proves and tests it.
+"""Finds limits that are written as numbers again: changes MAX_SIZE, MAX_ORDER and MAX_LARGE_ORDER in a copy, and proves and tests it.
 
     python3 bench/limits.py                       48 becomes 20, 32 becomes 12 and 128 becomes 100, in every crate
     python3 bench/limits.py 20 12 100 NAME..      in these crates and those below them
 
 A proof, a worked row or a test that fails there says one of the numbers where it should name the constant.
 A number of columns up to 48 and orders up to 32 and 128 still fit in the digits of a key and in the tables. The worked rows of grid_core
-and of quandle_core that spell a limit on purpose are turned with it.
+and of quandle_core that spell a limit on purpose are changed with it.
 The examples, the stored run and must-fail edits are not tried. From nothing it takes as long as the proofs of the gate do."""
 
 import glob

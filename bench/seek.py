@@ -20,7 +20,7 @@ distinguishes, over the 200,000 steps.
 
 The walks alone are those of the same seed. `seek` has no word for them, so they are timed like this. With 64 times the quandle of one
 colour in place of the first quandles, and no cocycles, all before the short walk takes next to nothing. Where the short walk joins a pair, that
-run is the walks alone. Else they are a run with all steps less one that ends before the long walk.
+run is the walks alone. Otherwise they are a run with all steps less one that ends before the long walk.
 """
 import argparse
 import csv

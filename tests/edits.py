@@ -29,7 +29,7 @@ text occurs once in its file.
 exit status:
   0  all were refused; with --stand, all can be applied
   1  some were not, or can't be
-  2  the words are no call, an edits.txt can't be read, or rt or git is missing; nothing was tried
+  2  the arguments are invalid, an edits.txt can't be read, or rt or git is missing; nothing was tried
   128 + N  stopped by signal N
 """
 import argparse
@@ -65,7 +65,7 @@ def tracked():
     """The tracked files that rt reads, by their paths from the top; those that are deleted in the work tree are left out."""
     done = subprocess.run(["git", "ls-files", "-z", "--", *COPIED], cwd=TOP, capture_output=True, text=True, check=False)
     if done.returncode:
-        raise CallError(f"git tells no files of {TOP}: {done.stderr.strip()}")
+        raise CallError(f"git lists no files of {TOP}: {done.stderr.strip()}")
     return [path for path in done.stdout.split("\0") if path and os.path.isfile(os.path.join(TOP, path))]
 
 

@@ -6,7 +6,7 @@
 
 A kit that keeps what it proved takes that over; `rt ci --anew` of such a kit runs from nothing.
 
-Every half second the processes of the run are looked at, since rt tells no times: so each sum may lack half a second for each of them. What
+Every half second the processes of the run are looked at, since rt reports no times; so each sum may lack half a second for each of them. What
 the run itself takes beside the prover, to compile and to run tests and programs, is the rest. The exit status is that of the run; with
 --beside it is 0, and nothing is said where PID has ended.
 """

@@ -16,7 +16,7 @@ Each part has a line as it ends, and all that it wrote where it failed. The last
 exit status:
   0        all passed
   1        some did not
-  2        the words are no call, or a program is missing; nothing was tried
+  2        the arguments are invalid, or a program is missing; nothing was tried
   128 + N  stopped by signal N
 """
 import argparse

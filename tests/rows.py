@@ -10,7 +10,7 @@ Where none is named, ./knot and ./seek are called once, which builds them, and t
 answers too where it is named, or crates/knot_check/out/knot_check is there. It writes nothing on standard error. Rows that call it by its own
 name, knot_check, are passed over where it isn't there.
 
-A file has a subject, and is read by people. A row is a name, a call, and parts. What stands in a part is set in by four blanks:
+A file has a subject, and is read by people. A row is a name, a call, and parts. The content of a part is indented by four blanks:
 
     == names of quandles have a form
     knot colour
@@ -31,17 +31,17 @@ A file has a subject, and is read by people. A row is a name, a call, and parts.
   word WORD                 one word more, with escapes as within lines
   file NAME                 a file that lies where the call is made, or in a folder there
   link NAME to OTHER        a symbolic link that lies there, with this text as its target
-  pipe NAME                 a named pipe that lies there; what stands in the part is written into it, and where it is empty, it is read
+  pipe NAME                 a named pipe that lies there; the content of the part is written into it, and if there is none, it is read
   memory N                  the call has N kilobytes of address space; where the program was built with a sanitizer, the row is passed over
   full output               standard output is a full device, so that each write fails
-  output to NAME            standard output is this file, which lies where the call is made, behind what stands there
-  each of                   so many cases: each line stands in turn in the place of the line `...` above, up to the next `each of`
+  output to NAME            standard output is this file, which lies where the call is made: the output is appended to it
+  each of                   a case for each line, which takes the place of the line `...` above, up to the next `each of`
   answer STATUS             the exit status, and standard output
   front STATUS              the exit status, and what standard output begins with
   error                     standard error; of knot it is what a terminal gets, since knot says nothing where standard error is none
   taken                     the input is read: the status is 0, 1 or 8
-  accepted behind it        the status is 0, and `knot check` accepts what is written behind the input
-  accepted in NAME          the same of what stands in this file
+  accepted behind it        the status is 0, and `knot check` accepts the input followed by what is written
+  accepted in NAME          the same of the content of this file
   simplified to N columns   a grid of N columns, moves and `irreducible` are written, and `knot replay` makes these moves to this grid
   whole                     a grid, moves and `whole` are written, and `knot replay` makes these moves to this grid
   equal within N columns    the verdict is `equal`, and no diagram along its moves has more than N columns
@@ -50,15 +50,15 @@ A file has a subject, and is read by people. A row is a name, a call, and parts.
   written NAME              the call writes this file, which begins so
   piped NAME                the call writes into this pipe what begins so
   linked NAME               a symbolic link of this name is there still
-  unwritten NAME            no file of this name stands where the call is made
-  nothing beside            no other file stands there than those of the row and those that are written
-  mode MODE of NAME         this file has this mode before the call and behind it
+  unwritten NAME            there is no file of this name where the call is made
+  nothing beside            there are no other files there than those of the row and those that are written
+  mode MODE of NAME         this file has this mode before the call and after it
   again                     the same call has the same status once more, and writes the same
-  cut at each byte          of each front of the input: it is malformed, or answered likewise where only the last line feed is gone
+  cut at each byte          of each prefix of the input: it is malformed, or answered likewise if only the last line feed is gone
   altered at each byte      of the input with a byte 1 in each place: its line is malformed
 
-The words of a call stand as in a shell: `--braid "2 1 1 1"`.
-Each line of a part ends with a line feed, but where it ends with a backslash. Within lines stand \\\\ \\t \\r \\n \\0 and \\xHH for one byte,
+The words of a call are written as in a shell: `--braid "2 1 1 1"`.
+Each line of a part ends with a line feed, unless it ends with a backslash. Lines may have \\\\ \\t \\r \\n \\0 and \\xHH for one byte,
 \\{MAX_SIZE + 1} for a number, \\{0 to MAX_SIZE} for numbers with blanks between, \\{" 1" x MAX_SIZE - 4} for so many copies of a text, and
 \\{alexander MAX_ORDER + 1 by 2} for the lines of the table of such a quandle.
 The constants are those of the crates. Lines that begin with # are remarks, and empty lines between parts say nothing.
@@ -68,7 +68,7 @@ Each difference is printed, and last a line with the counts. There are some 4,50
 exit status:
   0  each row has what it must
   1  some have not
-  2  the words are no call, a row is none, or a program is missing; nothing was tried
+  2  the arguments or a row are invalid, or a program is missing; nothing was tried
 """
 import argparse
 import contextlib
@@ -192,7 +192,7 @@ def bytes_of(line, known):
         elif escape["one"] in ONE_BYTE:
             made += ONE_BYTE[escape["one"]]
         else:
-            raise RowError(f"`{escape[0]}` stands for no byte")
+            raise RowError(f"`{escape[0]}` means no byte")
     return made + line[at:].encode()
 
 
@@ -303,7 +303,7 @@ def one_case(frame, other, place, known):
     """The case in which this line stands in the place of `...`, or None where there is no such place."""
     parts = [frame.given or [], *frame.files.values()]
     if (other is None) == any("..." in lines for lines in parts):
-        raise RowError(f"{frame.name}: a line `...` and parts `each of` stand together")
+        raise RowError(f"{frame.name}: a line `...` and parts `each of` go together")
 
     def put(lines):
         return text_of([other if line == "..." else line for line in lines], known)
@@ -538,7 +538,7 @@ class Runner:
                 found.append(None)
             elif found and found[-1] is not None and line[:1].isdigit():
                 found[-1] += 1
-        return [differs("status", ended.status, 0), differs("the numbers of lines that are told", told, counts),
+        return [differs("status", ended.status, 0), differs("the numbers of lines that are reported", told, counts),
                 differs("the numbers of lines", [count for count in found if count is not None], counts)]
 
     def part_written(self, _case, ended, name, text):

@@ -7,7 +7,7 @@
     python3 tests/sentences.py --seed 2         others
 
 `knot` names the first bad line exactly, by a proof; why it is bad is found beside it, and no proof speaks of that. A case differs
-where the status or the line is another one, where the reason is that none was found or the two tell different ones, and where `seek`
+where the status or the line is another one, where the reason is that none was found or the two report different ones, and where `seek`
 finds fault with a text that `knot` takes. Status 0 where none does.
 """
 import argparse
@@ -67,7 +67,7 @@ def difference(text):
     if (own, place) != (status, line):
         return f"knot: status {status}, line {line}; seek: status {own}, line {place}, {reason}", kind
     if told != b"knot: line %d: %s\n" % (place, reason):
-        return f"knot tells {told}, seek: {reason}", kind
+        return f"knot reports {told}, seek: {reason}", kind
     if reason.startswith(b"the line is not what is due"):
         return f"no reason: {reason}", kind
     return None, kind

@@ -87,7 +87,7 @@ def link_of(code):
 
     link = regina.Link.fromPD(code.rows)
     if link is None or [link.crossing(place).sign() for place in range(link.size())] != crossing_codes.signs(code):
-        sys.exit(f"Regina does not take {code.rows} as it stands")
+        sys.exit(f"Regina does not take {code.rows} as it is")
     return link
 
 

@@ -27,7 +27,7 @@ class Different(NamedTuple):
 class Unknown(NamedTuple):
     """The verdict `unknown`: a search found no evidence.
 
-    Where `exhausted`, moves within `columns` columns reach `diagrams` canonical diagrams from the two, and all were seen. Else the search
+    Where `exhausted`, moves within `columns` columns reach `diagrams` canonical diagrams from the two, and all were seen. Otherwise the search
     stopped at a budget of so many, and `columns` is None.
     """
 

@@ -24,7 +24,7 @@ def answer_of(words, text):
             return "0", "certificate 2 / equal 0"
         said = re.search("^# seek: ([0-9]+) ?(.*)$", text, re.M)
         if not said:
-            print("seek: nothing found: none of the 294 quandles tells them apart", file=sys.stderr)
+            print("seek: nothing found: none of the 294 quandles distinguishes them", file=sys.stderr)
         return (said[1], said[2]) if said else ("1", "")
     if words and words[0] == "check":
         said = re.search("^# check: ([0-9]+) ?(.*)$", text, re.M)

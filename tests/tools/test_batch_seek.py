@@ -25,7 +25,7 @@ class SeekTest(BatchTest):
         self.assertEqual(self.calls_made(), ["check"] * 2 + ["decide --budget 100"] * 3 + ["decide --budget 200"] + ["seek --steps 5"] * 2)
         self.assertTrue(self.read("certificates", "b.txt").endswith("\ncertificate 2\nequal 3\n"))
         # What it said is kept with the answer, and isn't said on standard error.
-        self.assertIn("seek: nothing found: none of the 294 quandles tells them apart", self.read("answers", "c.txt"))
+        self.assertIn("seek: nothing found: none of the 294 quandles distinguishes them", self.read("answers", "c.txt"))
         self.assertNotIn("nothing found", errors)
         self.assertEqual(self.batch()[0], 1)
         self.assertEqual(self.calls_made(), [])

@@ -478,7 +478,7 @@ class Wanting(EditsTest):
         shutil.rmtree(os.path.join(self.top, ".git"))
         done = subprocess.run(self.words(), env={"PATH": self.commands}, capture_output=True, text=True, check=False)
         self.assertEqual((done.returncode, done.stdout), (2, ""))
-        self.assertIn(f"edits.py: git tells no files of {self.top}: ", done.stderr)
+        self.assertIn(f"edits.py: git lists no files of {self.top}: ", done.stderr)
 
 
 class Copies(EditsTest):

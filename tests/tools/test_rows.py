@@ -195,7 +195,7 @@ NOT_WRITTEN = """some: not written
     no file other is written
     a file made is written
 some: other lists
-    the numbers of lines that are told is [2, 1], and not [2]
+    the numbers of lines that are reported is [2, 1], and not [2]
     the numbers of lines is [2, 1], and not [2]
 some: too wide
     a diagram along the moves has 3 columns, and not at most 2
@@ -290,8 +290,8 @@ NO_ROWS = (
     ("== one\nknot \"job\ntaken\n", "No closing quotation"),
     ("== one\nknot job\n", "nothing is expected"),
     ("== one\nknot job\ninputs\n    good\ntaken\n", "is no part of a row"),
-    ("== one\nknot job\ninput\n    ...\ntaken\n", "stand together"),
-    ("== one\nknot job\neach of\n    good\ntaken\n", "stand together"),
+    ("== one\nknot job\ninput\n    ...\ntaken\n", "go together"),
+    ("== one\nknot job\neach of\n    good\ntaken\n", "go together"),
     ("== one\nknot job\ninput\n    ...\neach of\n    good\n", "nothing is expected"),
 )
 

@@ -135,7 +135,7 @@ class StandInTest(WaysTest):
         os.mkdir(os.path.join(self.folder, "problems"))
         every = {"f": "# nothing\n", "c d'e": "# at 500000: 0 certificate 2 / equal 1 / shift rows 1\n", "g": "# at +20000: 4 limit line 4\n# at 500000: 3 malformed line 4\n",
                  "a": "# at +20000: 0 equal 0\n", "b": "# seek: 0 certificate 3 / different numbers dihedral 3 / seeds 0 / numbers 9 / seeds 0 / numbers 3\n",
-                 "h": "# at +20000: 1 unknown exhausted 5 2\n# seek: 1\n# says: nothing found: none tells them apart\n"}
+                 "h": "# at +20000: 1 unknown exhausted 5 2\n# seek: 1\n# says: nothing found: none distinguishes them\n"}
         for name, text in list(every.items())[:most]:
             self.put(os.path.join("problems", name + ".txt"), text)
         return os.path.join(self.folder, "problems")
