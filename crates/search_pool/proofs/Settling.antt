@@ -1,5 +1,5 @@
 -- What a claim and its settlement make of a book.
-use Rattle.std.proofs.Common.{◌≡◌, ◌∙◌, ap, ap₂, refl, sym, ℕ, ◌≤◌, [], ◌∷◌, ◌++◌, Bool, true, false, Some, arith}
+use Rattle.std.proofs.Common.{◌≡◌, ◌∙◌, ap, ap₂, refl, sym, ℕ, ◌≤◌, [], ◌∷◌, ◌++◌, Bool, true, false, Some, None, arith}
 use Rattle.std.proofs.lemmas.List.Elements.{All-contains}
 use Rattle.std.proofs.lemmas.Option.{slice_get_within, get_or_from_slice_get}
 use Rattle.grid_core.specs.Diagram.{size}
@@ -25,10 +25,18 @@ use Rattle.search_book.specs.Answers.{AnswersSettle, IsTicket, IsDone, held_at, 
 use Rattle.search_book.proofs.Restaged.{set_stands}
 use Rattle.search_book.proofs.Recorded.{settled_history, settled_problem}
 
-module _ (s t u : State) (worker : ℕ) (ticket : Ticket) (offers : Neighbourhood) (claims : ClaimsEntry s worker ticket.id t)
+-- a settlement of what is in flight, as it is asked, is neither late nor a stranger's
+pub is_done : (s t : State) (worker id : ℕ) (offers : Neighbourhood) (answer : Settled) → s.end ≡ None
+    → held_at s id ≡ Some (asked_by worker offers) → AnswersSettle s worker id offers answer t → answer ≡ Done
+is_done s t worker id offers Done not_over held answers = refl
+is_done s t worker id offers Late not_over held answers = absurd (answers.0 not_over)
+is_done s t worker id offers (Stranger asked kept) not_over held answers =
+    absurd (answers.differ (answers.is_held ∙ held ∙ ap (λ (h : Held). Some h) (sym answers.is_asked)))
+
+module _ (s t : State) (worker : ℕ) (ticket : Ticket) (offers : Neighbourhood) (claims : ClaimsEntry s worker ticket.id t)
     (is_ticket : IsTicket s ticket) (origin : offers.origin ≡ key_of ticket.form.grid) (cap : offers.cap ≡ s.problem.cap) where
   -- the entry of the ticket is in flight for the worker, with the key of the offers
-  held_now : held_at t ticket.id ≡ Some (asked_by worker offers)
+  pub held_now : held_at t ticket.id ≡ Some (asked_by worker offers)
   held_now =
       let both : Some is_ticket.entry ≡ Some claims.entry = sym is_ticket.stands ∙ claims.next.stands in
       let one : is_ticket.entry ≡ claims.entry = cc in
@@ -41,22 +49,18 @@ module _ (s t u : State) (worker : ℕ) (ticket : Ticket) (offers : Neighbourhoo
       asked : ℕ → Packed → ℕ → Held
       asked worker key cap = record { worker = worker; key = key; cap = cap }
 
-  -- the settlement is neither late nor a stranger's
-  pub is_done : (answer : Settled) → AnswersSettle t worker ticket.id offers answer u → answer ≡ Done
-  is_done Done answers = refl
-  is_done Late answers = absurd (answers.0 (ap (λ (v : State). v.end) claims.after ∙ claims.not_over))
-  is_done (Stranger asked kept) answers = absurd (answers.differ (answers.is_held ∙ held_now ∙ ap (λ (h : Held). Some h) (sym answers.is_asked)))
-
-  pub turn_history : IsDone t worker ticket.id offers u → u.history ≡ s.history ++ Claim worker ∷ [] ++ Settle worker ticket.id ∷ []
-  turn_history done =
+-- a claim and the settlement of what was claimed
+module _ (s t u : State) (worker id : ℕ) (offers : Neighbourhood) (claims : ClaimsEntry s worker id t) (done : IsDone t worker id offers u) where
+  pub turn_history : u.history ≡ s.history ++ Claim worker ∷ [] ++ Settle worker id ∷ []
+  turn_history =
       ap (λ (v : State). v.history) done.after
-      ∙ settled_history t worker ticket.id done.entry offers.offers
-      ∙ ap (λ (v : State). v.history ++ Settle worker ticket.id ∷ []) claims.after
+      ∙ settled_history t worker id done.entry offers.offers
+      ∙ ap (λ (v : State). v.history ++ Settle worker id ∷ []) claims.after
 
-  pub turn_problem : IsDone t worker ticket.id offers u → u.problem ≡ s.problem
-  turn_problem done =
+  pub turn_problem : u.problem ≡ s.problem
+  turn_problem =
       ap (λ (v : State). v.problem) done.after
-      ∙ settled_problem t worker ticket.id done.entry offers.offers
+      ∙ settled_problem t worker id done.entry offers.offers
       ∙ ap (λ (v : State). v.problem) claims.after
 
 -- the diagram of a ticket is within the cap

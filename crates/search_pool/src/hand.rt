@@ -8,78 +8,19 @@ use crate::locked::{Task, Waking};
 use crate::seat::Seat;
 use crate::shared::SharedBook;
 use crate::shared_problem::OfProblem;
-use next_moves::{MAX_OFFERS, Offers};
-use search_book::NO_HINT;
+use crate::task_offers::{TaskOffers, find_in};
 use std::alloc::{AllocError, Global};
+use std::array;
 use std::marker::Model;
 use std::sync::Wait;
 use std::sync::ledger::Ledger;
-
-/// The offers of a task, with the ids at which their keys may be in the book, where these were looked up.
-#[derive(Drop)]
-struct Found {
-    offers: Offers,
-    ids: [u32; MAX_OFFERS],
-    is_hinted: bool,
-}
-
-impl Found {
-    /// Looks up ids for the keys of the offers.
-    fn look(&mut self, table: &HintTable) {
-        let Found {
-            offers,
-            ids,
-            is_hinted,
-        } = self;
-        table.look(offers.offers(), ids.as_mut_slice());
-        *is_hinted = true;
-    }
-
-    /// Settles the entry with this id with these offers, and with the ids as hints, if they were looked up. Answers whom that wakes.
-    fn settle<L: Ledger, M: Ledger, K: OfProblem, R: Wait>(
-        &mut self,
-        rt: &R,
-        shared: &SharedBook<L, M, K>,
-        seat: &mut Seat<L, M>,
-        id: u32,
-    ) -> Waking
-        ensures worker { seat.new.worker ≡ seat.old.worker }
-        ensures made { seat.old.made ≤ seat.new.made }
-    {
-        let Found {
-            offers,
-            ids,
-            is_hinted,
-        } = self;
-        if *is_hinted {
-            shared.settle(rt, seat, id, offers, ids.as_mut_slice())
-        } else {
-            shared.settle(rt, seat, id, offers, &mut [])
-        }
-    }
-}
-
-/// Finds the offers of a first task, where there is room for them. This stands out of line: a function that is called for each task would
-/// clear its frame, which holds the list.
-#[inline(never)]
-fn find_first(room: &mut Vec<Found>, task: &Task)
-    requires { AllowsOffers task.now }
-{
-    if room.len() < room.capacity() {
-        room.push_reserved(Found {
-            offers: Offers::of(&task.form, task.cap),
-            ids: [NO_HINT; MAX_OFFERS],
-            is_hinted: false,
-        });
-    }
-}
 
 /// A place for one task that a worker has in hand, and for its offers, for which memory is taken beforehand. A list of offers stays for the
 /// next task, which renews it. Contracts see the task.
 #[derive(Drop)]
 pub struct TaskPlace {
     task: Option<Task>,
-    found: Option<Vec<Found>>,
+    found: Option<Vec<TaskOffers>>,
 }
 
 impl Model for TaskPlace {
@@ -139,9 +80,7 @@ impl TaskPlace {
     pub fn note(&self, table: &mut HintTable) {
         if let (Some(_), Some(room)) = (&self.task, &self.found) {
             for found in room.iter() {
-                if found.is_hinted {
-                    table.note(found.offers.offers(), found.ids.as_slice());
-                }
+                found.note(table);
             }
         }
     }
@@ -155,15 +94,8 @@ impl TaskPlace {
             return;
         };
         gate.pass(worker, task.id);
-        let Some(room) = found else {
-            return;
-        };
-        match room.get_mut(0) {
-            Some(found) => {
-                found.offers.renew(&task.form, task.cap);
-                found.is_hinted = false;
-            }
-            None => find_first(room, task),
+        if let Some(room) = found {
+            find_in(room, task);
         }
     }
 
@@ -196,7 +128,7 @@ impl TaskPlace {
         let mut waking = Waking::Count(0);
         if let (Some(task), Some(room)) = (&*task, found) {
             if let Some(found) = room.get_mut(0) {
-                waking = found.settle(rt, shared, seat, task.id);
+                waking = shared.settle(rt, seat, task.id, found);
             }
         }
         *task = None;
@@ -223,23 +155,7 @@ impl Hand {
     {
         Hand {
             first: TaskPlace::empty(),
-            others: [
-                TaskPlace::empty(),
-                TaskPlace::empty(),
-                TaskPlace::empty(),
-                TaskPlace::empty(),
-                TaskPlace::empty(),
-                TaskPlace::empty(),
-                TaskPlace::empty(),
-                TaskPlace::empty(),
-                TaskPlace::empty(),
-                TaskPlace::empty(),
-                TaskPlace::empty(),
-                TaskPlace::empty(),
-                TaskPlace::empty(),
-                TaskPlace::empty(),
-                TaskPlace::empty(),
-            ],
+            others: array::from_fn(|_| TaskPlace::empty()),
         }
     }
 

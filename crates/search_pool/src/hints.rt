@@ -98,14 +98,8 @@ impl HintTable {
     fn look_one(&self, key: &Packed) -> u32 {
         let hash = hash_of(key);
         match self.words.get(place_of(hash, self.words.len())) {
-            Some(word) => {
-                if *word / UPPER == hash % UPPER {
-                    (*word % UPPER) as u32
-                } else {
-                    NO_HINT
-                }
-            }
-            None => NO_HINT,
+            Some(word) if *word / UPPER == hash % UPPER => (*word % UPPER) as u32,
+            _ => NO_HINT,
         }
     }
 

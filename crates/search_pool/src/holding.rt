@@ -8,7 +8,7 @@ ghost use Rattle.search_pool.specs.Task.{AllowsOffers, IsTaskAnswer, Counts};
 use crate::locked::{Locked, Task, TaskAnswer, Waking};
 use crate::seat::Seat;
 use crate::shared_problem::OfProblem;
-use next_moves::Offers;
+use crate::task_offers::TaskOffers;
 use std::hint::spin_loop;
 use std::sync::ledger::Ledger;
 use std::sync::{Condvar, Mutex, MutexGuard, Wait};
@@ -78,12 +78,17 @@ pub fn taken<'a, T, R: Wait>(lock: &'a Mutex<T>, rt: &R) -> MutexGuard<'a, T> {
         if let Some(guard) = lock.try_lock() {
             return guard;
         }
-        for _ in 0..pauses {
-            spin_loop();
-        }
+        pause(pauses);
         pauses = pauses.saturating_add(pauses).min(MOST_PAUSES);
     }
     lock.lock(rt)
+}
+
+/// Pauses so many times.
+fn pause(times: u32) {
+    for _ in 0..times {
+        spin_loop();
+    }
 }
 
 impl<L: Ledger, M: Ledger, K: OfProblem> BookLock<L, M, K> {
@@ -129,18 +134,17 @@ impl<'a, L: Ledger, M: Ledger, K: OfProblem> Holding<'a, L, M, K> {
         self,
         seat: &mut Seat<L, M>,
         id: u32,
-        offers: &Offers,
-        hints: &mut [u32],
+        found: &mut TaskOffers,
     ) -> (Waking, Called<'a, L, M, K>)
         ensures book { IsHolding seat.old.worker (mutex_guard_value self.entry.guard).book (mutex_guard_value result.1.guard).book }
-        ensures counts { Counts (mutex_guard_value self.entry.guard).book seat.old.worker id offers.now
+        ensures counts { Counts (mutex_guard_value self.entry.guard).book seat.old.worker id found.old.offers
             (mutex_guard_value result.1.guard).book seat.old.made seat.new.made }
         ensures worker { seat.new.worker ≡ seat.old.worker }
         ensures made { seat.old.made ≤ seat.new.made }
         ensures saw_end { seat.new.saw_end ≡ seat.old.saw_end }
     {
         let Holding { mut guard } = self;
-        let waking = guard.settle(seat, id, offers, hints);
+        let waking = guard.settle(seat, id, found);
         (waking, Called { guard })
     }
 }

@@ -12,6 +12,7 @@ mod searcher;
 mod seat;
 mod shared;
 mod shared_problem;
+mod task_offers;
 
 pub use finding::Finding;
 pub use gate::{Gate, OpenGate};

@@ -7,8 +7,8 @@ ghost use Rattle.search_pool.specs.Task.{AllowsOffers, IsTaskAnswer, Counts};
 
 use crate::seat::Seat;
 use crate::shared_problem::OfProblem;
+use crate::task_offers::TaskOffers;
 use grid_keys::LeastForm;
-use next_moves::Offers;
 use search_book::{Book, Claim, Settled, Ticket};
 use std::marker::PhantomData;
 use std::sync::ledger::{Book as Tally, Ledger, Share};
@@ -44,7 +44,7 @@ pub enum TaskAnswer {
 }
 
 /// Whom a settlement wakes.
-#[derive(Clone, Copy, Debug, PartialEq, Eq)]
+#[derive(Clone, Copy, PartialEq, Eq)]
 pub enum Waking {
     /// So many of those that wait.
     Count(u32),
@@ -120,18 +120,12 @@ impl<L: Ledger, M: Ledger, K: OfProblem> Locked<L, M, K> {
         ensures worker { seat.new.worker ≡ seat.old.worker }
         ensures made { seat.new.made ≡ seat.old.made }
     {
-        let Locked {
-            book,
-            end_ledger,
-            waiting,
-            ..
-        } = self;
-        let cap = book.problem().cap;
-        match book.claim(seat.worker()) {
-            Claim::Work(ticket) => TaskAnswer::Work(task_of(book, ticket, cap)),
-            Claim::Later => later(waiting),
+        let cap = self.book.problem().cap;
+        match self.book.claim(seat.worker()) {
+            Claim::Work(ticket) => TaskAnswer::Work(task_of(&self.book, ticket, cap)),
+            Claim::Later => later(&mut self.waiting),
             Claim::Over(_) => {
-                seat.note_end(end_ledger);
+                seat.note_end(&mut self.end_ledger);
                 TaskAnswer::Over
             }
         }
@@ -144,33 +138,21 @@ impl<L: Ledger, M: Ledger, K: OfProblem> Locked<L, M, K> {
         self.waiting = self.waiting.saturating_sub(1);
     }
 
-    /// One settlement of the book, with hints as `Book::settle_hinted` has them, counted by the seat where the offers were taken. Answers
-    /// whom it wakes: for each entry that was admitted one of those that wait, and all where the book is over.
-    pub fn settle(
-        &mut self,
-        seat: &mut Seat<L, M>,
-        id: u32,
-        offers: &Offers,
-        hints: &mut [u32],
-    ) -> Waking
+    /// One settlement of the book, counted by the seat where the offers were taken. Answers whom it wakes: for each entry that was admitted
+    /// one of those that wait, and all where the book is over.
+    pub fn settle(&mut self, seat: &mut Seat<L, M>, id: u32, found: &mut TaskOffers) -> Waking
         ensures book { IsHolding seat.old.worker self.old.book self.new.book }
-        ensures counts { Counts self.old.book seat.old.worker id offers.now self.new.book seat.old.made seat.new.made }
+        ensures counts { Counts self.old.book seat.old.worker id found.old.offers self.new.book seat.old.made seat.new.made }
         ensures worker { seat.new.worker ≡ seat.old.worker }
         ensures made { seat.old.made ≤ seat.new.made }
         ensures saw_end { seat.new.saw_end ≡ seat.old.saw_end }
     {
-        let Locked {
-            book,
-            made_ledger,
-            waiting,
-            ..
-        } = self;
-        let before = book.len();
-        settle_counted(book, made_ledger, seat, id, offers, hints);
-        if book.end().is_some() {
+        let before = self.book.len();
+        settle_counted(&mut self.book, &mut self.made_ledger, seat, id, found);
+        if self.book.end().is_some() {
             Waking::All
         } else {
-            Waking::Count(book.len().saturating_sub(before).min(*waiting))
+            Waking::Count(self.book.len().saturating_sub(before).min(self.waiting))
         }
     }
 
@@ -183,17 +165,10 @@ impl<L: Ledger, M: Ledger, K: OfProblem> Locked<L, M, K> {
         ensures over { 0 < how_many_saw_end seats.items → result.0.end ≢ None }
         ensures problem { result.0.problem ≡ K.problem }
     {
-        let Locked {
-            book,
-            mut made_ledger,
-            mut end_ledger,
-            mut made_share,
-            mut end_share,
-            ..
-        } = self;
-        for seat in seats {
-            seat.give_back(&mut made_share, &mut end_share);
-        }
+        let book = self.book;
+        let (mut made_ledger, mut made_share) = (self.made_ledger, self.made_share);
+        let (mut end_ledger, mut end_share) = (self.end_ledger, self.end_share);
+        give_all_back(seats, &mut made_share, &mut end_share);
         made_ledger.audit(&mut made_share);
         end_ledger.audit(&mut end_share);
         let settled = book.settles();
@@ -235,12 +210,11 @@ fn settle_counted<L: Ledger, M: Ledger>(
     made_ledger: &mut Tally<L>,
     seat: &mut Seat<L, M>,
     id: u32,
-    offers: &Offers,
-    hints: &mut [u32],
+    found: &mut TaskOffers,
 )
     requires { made_ledger.old.total ≡ settlements book.old.history }
     ensures book { IsHolding seat.old.worker book.old book.new }
-    ensures counts { Counts book.old seat.old.worker id offers.now book.new seat.old.made seat.new.made }
+    ensures counts { Counts book.old seat.old.worker id found.old.offers book.new seat.old.made seat.new.made }
     ensures sums { made_ledger.new.total ≡ settlements book.new.history }
     ensures over { book.old.end ≢ None → book.new.end ≢ None }
     ensures problem { book.new.problem ≡ book.old.problem }
@@ -248,7 +222,25 @@ fn settle_counted<L: Ledger, M: Ledger>(
     ensures made { seat.old.made ≤ seat.new.made }
     ensures saw_end { seat.new.saw_end ≡ seat.old.saw_end }
 {
-    if book.settle_hinted(seat.worker(), id, offers, hints) == Settled::Done {
+    if found.settle(book, seat.worker(), id) == Settled::Done {
         seat.count(made_ledger);
+    }
+}
+
+/// Gives the parts of all these seats back to two shares without a part.
+fn give_all_back<L: Ledger, M: Ledger>(
+    seats: Vec<Seat<L, M>>,
+    made_share: &mut Share<L>,
+    end_share: &mut Share<M>,
+)
+    requires made_share { (made_share.old.parts ≡ 0) × (made_share.old.amount ≡ 0) }
+    requires end_share { (end_share.old.parts ≡ 0) × (end_share.old.amount ≡ 0) }
+    ensures made_parts { made_share.new.parts ≡ vec_len seats }
+    ensures made { made_share.new.amount ≡ all_made seats.items }
+    ensures end_parts { end_share.new.parts ≡ vec_len seats }
+    ensures saw_end { end_share.new.amount ≡ how_many_saw_end seats.items }
+{
+    for seat in seats {
+        seat.give_back(made_share, end_share);
     }
 }

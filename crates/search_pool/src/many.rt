@@ -4,6 +4,7 @@ ghost use Rattle.search_book.specs.Bounded.{IsBounded};
 ghost use Rattle.search_book.specs.Ended.{Shows};
 ghost use Rattle.search_book.specs.Sound.{IsProblem};
 ghost use Rattle.search_book.specs.Events.{settlements};
+ghost use Rattle.search_pool.specs.Blanks.{IsBlankFor};
 ghost use Rattle.search_pool.specs.Finding.{IsFinding};
 ghost use Rattle.search_pool.specs.Seats.{SeatState};
 
@@ -43,17 +44,9 @@ pub fn pool<R: Threads + Wait + Sync, G: Gate + Sync>(
     ensures finding { IfOk result (λ f. IsFinding problem f) }
     ensures shows { IfOk result (λ f. (end : End) → f.book.end ≡ Some end → Shows f.book end) }
 {
-    let parts = u64::from(workers);
+    let blanks = Blanks::of(workers);
     let (book, settled) = run_workers::<Brand, Brand, Brand, R, G>(
-        rt,
-        alloc,
-        problem,
-        gate,
-        Blanks {
-            workers,
-            made: Blank::new(parts),
-            ends: Blank::new(parts),
-        },
+        rt, alloc, problem, gate, blanks,
     )?;
     Ok(Finding::counted(book, settled))
 }
@@ -64,6 +57,22 @@ struct Blanks {
     workers: u32,
     made: Blank,
     ends: Blank,
+}
+
+impl Blanks {
+    /// New blanks for so many workers, with a part for each.
+    fn of(workers: u32) -> Blanks
+        ensures workers { result.workers ≡ workers }
+        ensures made { result.made.parts ≡ workers }
+        ensures ends { result.ends.parts ≡ workers }
+    {
+        let parts = u64::from(workers);
+        Blanks {
+            workers,
+            made: Blank::new(parts),
+            ends: Blank::new(parts),
+        }
+    }
 }
 
 /// Begins the book, lets the workers work at it, and closes it: what comes back is of the problem and over, with the number of
@@ -85,20 +94,19 @@ fn run_workers<
     requires of_problem { problem ≡ K.problem }
     requires some { 1 ≤ blanks.workers }
     requires workers { blanks.workers ≤ MAX_WORKERS }
-    requires made_blank { (blanks.made.name ≡ L.name) × (blanks.made.parts ≡ L.parts) × (L.parts ≡ blanks.workers) }
-    requires end_blank { (blanks.ends.name ≡ M.name) × (blanks.ends.parts ≡ M.parts) × (M.parts ≡ blanks.workers) }
+    requires made_blank { IsBlankFor L.Ledger blanks.made blanks.workers }
+    requires end_blank { IsBlankFor M.Ledger blanks.ends blanks.workers }
     ensures problem { IfOk result (λ closed. closed.0.problem ≡ problem) }
     ensures over { IfOk result (λ closed. closed.0.end ≢ None) }
     ensures settled { IfOk result (λ closed. closed.1 ≡ settlements closed.0.history) }
 {
     let book = Book::begin(alloc, problem)?;
-    let Blanks {
-        workers,
-        made,
-        ends,
-    } = blanks;
     let (shared, mut seats): (SharedBook<L, M, K>, Vec<Seat<L, M>>) = SharedBook::new(
-        alloc, book, workers, made, ends,
+        alloc,
+        book,
+        blanks.workers,
+        blanks.made,
+        blanks.ends,
     )?;
     work_all(rt, &shared, seats.as_mut_slice(), gate);
     Ok(shared.close(seats))

@@ -2,6 +2,7 @@
 ghost use Rattle.std.specs.Prelude.{◌≡◌, ◌≢◌, ◌<◌, ◌≤◌, ◌+◌, [], None, vec_len, IfOk, IfSome, IfNone, true, false};
 ghost use Rattle.search_pool.specs.declared.many.TheConstants.{MAX_WORKERS};
 ghost use Rattle.search_book.specs.Events.{settlements};
+ghost use Rattle.search_pool.specs.Blanks.{IsBlankFor};
 ghost use Rattle.search_pool.specs.Seats.{SeatState, fresh_seats, all_made, how_many_saw_end};
 ghost use Rattle.search_pool.specs.Task.{AllowsOffers};
 
@@ -13,8 +14,8 @@ use crate::locked::{Locked, Task, TaskAnswer, Waking, allows_plenty};
 use crate::many::MAX_WORKERS;
 use crate::seat::Seat;
 use crate::shared_problem::OfProblem;
+use crate::task_offers::TaskOffers;
 use memory_core::OutOfMemory;
-use next_moves::Offers;
 use search_book::Book;
 use std::alloc::Global;
 use std::sync::ledger::{Blank, Ledger, Share};
@@ -49,8 +50,8 @@ impl<L: Ledger, M: Ledger, K: OfProblem> SharedBook<L, M, K> {
         requires of_problem { book.problem ≡ K.problem }
         requires some { 1 ≤ workers }
         requires most { workers ≤ MAX_WORKERS }
-        requires made_blank { (made_blank.name ≡ L.name) × (made_blank.parts ≡ L.parts) × (L.parts ≡ workers) }
-        requires end_blank { (end_blank.name ≡ M.name) × (end_blank.parts ≡ M.parts) × (M.parts ≡ workers) }
+        requires made_blank { IsBlankFor L.Ledger made_blank workers }
+        requires end_blank { IsBlankFor M.Ledger end_blank workers }
         ensures seats { IfOk result (λ shared. shared.1.items ≡ fresh_seats workers) }
     {
         let (made_ledger, mut made_share) = made_blank.open::<L>();
@@ -58,13 +59,18 @@ impl<L: Ledger, M: Ledger, K: OfProblem> SharedBook<L, M, K> {
         let mut seats = first_seats(alloc, workers, &mut made_share, &mut end_share)?;
         reserve_others(alloc, book.problem().budget, seats.as_mut_slice());
         let hints = Hints::new(alloc, book.problem());
-        let shared = SharedBook {
-            lock: BookLock::new(Locked::new(book, made_ledger, end_ledger, made_share, end_share)),
+        let locked = Locked::new(book, made_ledger, end_ledger, made_share, end_share);
+        Ok((SharedBook::of(locked, hints), seats))
+    }
+
+    /// A book to share, with hints, whose locks are free.
+    fn of(locked: Locked<L, M, K>, hints: Hints) -> SharedBook<L, M, K> {
+        SharedBook {
+            lock: BookLock::new(locked),
             turn: TurnLock::new(),
             changed: Condvar::new(),
             hints,
-        };
-        Ok((shared, seats))
+        }
     }
 
     /// Works at the book until its end is seen: settles what it has in hand, claims the next entry, and further ones where there is plenty of
@@ -117,7 +123,7 @@ impl<L: Ledger, M: Ledger, K: OfProblem> SharedBook<L, M, K> {
             let waking = self.settle_all(rt, seat, hand);
             self.wake(waking);
         }
-        self.claim_one(rt, seat, hand)
+        self.claim_first(rt, seat, hand)
     }
 
     /// Settles what is in hand and claims the next tasks, in one turn, and wakes others after it; false where there was no task.
@@ -138,46 +144,52 @@ impl<L: Ledger, M: Ledger, K: OfProblem> SharedBook<L, M, K> {
         ensures worker { seat.new.worker ≡ seat.old.worker }
         ensures made { seat.new.made ≡ seat.old.made }
     {
-        let Some(task) = self.one_more(rt, seat) else {
+        let Some(task) = self.try_claim(rt, seat) else {
             return false;
         };
         let plenty = task.plenty;
         hand.first.put(task);
-        self.claim_others(rt, seat, hand.others.as_mut_slice(), plenty);
+        if plenty {
+            self.claim_others(rt, seat, hand.others.as_mut_slice());
+        }
         true
     }
 
     /// Claims a task for each further place, each in a holding of its own, as long as there is plenty of them, and room.
-    fn claim_others<R: Wait>(
-        &self,
-        rt: &R,
-        seat: &mut Seat<L, M>,
-        others: &mut [TaskPlace],
-        plenty: bool,
-    )
+    fn claim_others<R: Wait>(&self, rt: &R, seat: &mut Seat<L, M>, others: &mut [TaskPlace])
         ensures worker { seat.new.worker ≡ seat.old.worker }
         ensures made { seat.new.made ≡ seat.old.made }
     {
-        let mut plenty = plenty;
         for place in others.iter_mut() {
-            if !plenty || !place.has_room() {
+            if !self.claim_at(rt, seat, place) {
                 break;
             }
-            let Some(task) = self.one_more(rt, seat) else {
-                break;
-            };
-            plenty = task.plenty;
-            place.put(task);
         }
     }
 
-    /// Claims the next task, for which it may wait; false where the worker saw the end.
-    fn claim_one<R: Wait>(&self, rt: &R, seat: &mut Seat<L, M>, hand: &mut Hand) -> bool
+    /// Claims a task for a place with room, and answers whether there was plenty of them; false where there was no room or no task.
+    fn claim_at<R: Wait>(&self, rt: &R, seat: &mut Seat<L, M>, place: &mut TaskPlace) -> bool
+        ensures worker { seat.new.worker ≡ seat.old.worker }
+        ensures made { seat.new.made ≡ seat.old.made }
+    {
+        if !place.has_room() {
+            return false;
+        }
+        let Some(task) = self.try_claim(rt, seat) else {
+            return false;
+        };
+        let plenty = task.plenty;
+        place.put(task);
+        plenty
+    }
+
+    /// Claims a task for the first place, for which it may wait; false where the worker saw the end.
+    fn claim_first<R: Wait>(&self, rt: &R, seat: &mut Seat<L, M>, hand: &mut Hand) -> bool
         ensures over { result ≡ false → seat.new.saw_end ≡ true }
         ensures worker { seat.new.worker ≡ seat.old.worker }
         ensures made { seat.new.made ≡ seat.old.made }
     {
-        match self.next(rt, seat) {
+        match self.claim_or_wait(rt, seat) {
             Some(task) => {
                 hand.first.put(task);
                 true
@@ -198,8 +210,8 @@ impl<L: Ledger, M: Ledger, K: OfProblem> SharedBook<L, M, K> {
         waking
     }
 
-    /// Claims one more task, without waiting for it. None where each entry is claimed, and where the worker saw the end.
-    fn one_more<R: Wait>(&self, rt: &R, seat: &mut Seat<L, M>) -> Option<Task>
+    /// Claims a task, without waiting for it. None where each entry is claimed, and where the worker saw the end.
+    fn try_claim<R: Wait>(&self, rt: &R, seat: &mut Seat<L, M>) -> Option<Task>
         ensures some { IfSome result (λ task. AllowsOffers task) }
         ensures worker { seat.new.worker ≡ seat.old.worker }
         ensures made { seat.new.made ≡ seat.old.made }
@@ -215,9 +227,9 @@ impl<L: Ledger, M: Ledger, K: OfProblem> SharedBook<L, M, K> {
         }
     }
 
-    /// The worker's next task; None where it saw the end. Where there is none yet it goes to wait out of the holding in
+    /// Claims a task; None where the worker saw the end. Where there is none yet it goes to wait out of the holding in
     /// which it asked, so that no waking is lost, and asks again in the one in which it wakes.
-    fn next<R: Wait>(&self, rt: &R, seat: &mut Seat<L, M>) -> Option<Task>
+    fn claim_or_wait<R: Wait>(&self, rt: &R, seat: &mut Seat<L, M>) -> Option<Task>
         ensures some { IfSome result (λ task. AllowsOffers task) }
         ensures none { IfNone result (seat.new.saw_end ≡ true) }
         ensures worker { seat.new.worker ≡ seat.old.worker }
@@ -235,19 +247,18 @@ impl<L: Ledger, M: Ledger, K: OfProblem> SharedBook<L, M, K> {
         unreachable!()
     }
 
-    /// Settles an entry, and answers whom that wakes. The ids are hints as `Book::settle_hinted` has them.
+    /// Settles the entry of a task, by its id, with the offers that were found, and answers whom that wakes.
     pub(crate) fn settle<R: Wait>(
         &self,
         rt: &R,
         seat: &mut Seat<L, M>,
         id: u32,
-        offers: &Offers,
-        ids: &mut [u32],
+        found: &mut TaskOffers,
     ) -> Waking
         ensures worker { seat.new.worker ≡ seat.old.worker }
         ensures made { seat.old.made ≤ seat.new.made }
     {
-        let (waking, called) = self.lock.hold(rt).settle(seat, id, offers, ids);
+        let (waking, called) = self.lock.hold(rt).settle(seat, id, found);
         drop(called);
         waking
     }
@@ -297,12 +308,9 @@ fn first_seats<L: Ledger, M: Ledger>(
     let mut seats = Vec::with_capacity(alloc, workers as usize)?;
     for worker in 0..workers {
         let hand = Hand::with_first(alloc)?;
-        seats.push_reserved(Seat::fresh(
-            worker,
-            made_share.split_off(1, 0),
-            end_share.split_off(1, 0),
-            hand,
-        ));
+        let made = made_share.split_off(1, 0);
+        let ends = end_share.split_off(1, 0);
+        seats.push_reserved(Seat::fresh(worker, made, ends, hand));
     }
     Ok(seats)
 }

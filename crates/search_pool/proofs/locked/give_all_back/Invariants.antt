@@ -1,6 +1,6 @@
 use Rattle.std.proofs.Common.{◌≡◌, length}
 use Rattle.search_pool.specs.Seats.{all_made, how_many_saw_end}
-use Rattle.search_pool.proofs.locked.Locked.close.Given as goal
+use Rattle.search_pool.proofs.locked.give_all_back.Given as goal
 
 abbrev pub invariant-loop-seat : goal.invariant-loop-seat
 invariant-loop-seat g l =
