@@ -1,7 +1,7 @@
 //! How often the edges turn, with as few turns in all as can be (Tamassia 1987).
 
 use crate::sphere::Sphere;
-use crate::tables::{at, marks, put, table};
+use crate::tables::{at, marked, marks, put, table};
 use memory_core::OutOfMemory;
 use std::alloc::{AllocError, Global};
 
@@ -119,13 +119,19 @@ fn turn_first(sphere: &Sphere, lefts: &mut [i32]) {
     }
 }
 
-/// How many more turns to the left each face is to have: all corners of a face and its turns are 4 in sum, and -4 at the outer one.
-fn needs_of(sphere: &Sphere, bends: &Bends) -> Result<Vec<i32>, AllocError> {
+/// All corners of a face and its turns: 4 in sum, and -4 at the outer face of a part.
+fn sums_of(sphere: &Sphere, bends: &Bends) -> Result<Vec<i32>, AllocError> {
     let alloc = sphere.alloc;
-    let mut needs: Vec<i32> = vec![in alloc; 4; sphere.bounds.len()]?;
+    let mut sums: Vec<i32> = vec![in alloc; 4; sphere.bounds.len()]?;
     for face in bends.outer.as_slice() {
-        put(needs.as_mut_slice(), *face, -4);
+        put(sums.as_mut_slice(), *face, -4);
     }
+    Ok(sums)
+}
+
+/// How many more turns to the left each face is to have for the sum of its corners and turns.
+fn needs_of(sphere: &Sphere, bends: &Bends) -> Result<Vec<i32>, AllocError> {
+    let mut needs = sums_of(sphere, bends)?;
     for dart in 0..sphere.darts {
         let more = at(bends.lefts.as_slice(), sphere.twin(dart)).saturating_sub(1);
         add(needs.as_mut_slice(), sphere.face(dart), more);
@@ -161,20 +167,14 @@ struct Reach {
 
 impl Reach {
     /// The sources alone.
-    fn of(alloc: Global, sources: &[bool]) -> Result<Reach, OutOfMemory> {
-        let mut reach = Reach {
+    fn of(alloc: Global, sources: &[bool]) -> Result<Reach, AllocError> {
+        Ok(Reach {
             reached: sources.to_vec(alloc)?,
             far: vec![in alloc; 0; sources.len()]?,
             came: table(alloc, sources.len())?,
-            queue: Vec::new(alloc),
+            queue: marked(alloc, sources)?,
             waiting: sources.to_vec(alloc)?,
-        };
-        for face in 0..sources.len() {
-            if sources[face] {
-                reach.queue.push(face)?;
-            }
-        }
-        Ok(reach)
+        })
     }
 
     /// The nearest face that is a sink.
@@ -191,21 +191,30 @@ impl Reach {
         best
     }
 
-    /// Steps from a face over the darts around it.
+    /// Steps from a face into each face beside it.
     fn leave(&mut self, sphere: &Sphere, bends: &Bends, from: usize) -> Result<(), AllocError> {
-        put(self.waiting.as_mut_slice(), from, false);
         let first = at(sphere.bounds.as_slice(), from);
         let mut side = first;
         for _ in 0..sphere.darts {
-            let dart = sphere.twin(side);
-            let far = at(self.far.as_slice(), from).saturating_add(bends.price(dart));
-            self.enter(sphere.face(dart), dart, far)?;
+            self.step(sphere, bends, from, sphere.twin(side))?;
             side = sphere.next_in_face(side);
             if side == first {
                 break;
             }
         }
         Ok(())
+    }
+
+    /// Steps from a face over a dart into the face on the dart's left.
+    fn step(
+        &mut self,
+        sphere: &Sphere,
+        bends: &Bends,
+        from: usize,
+        dart: usize,
+    ) -> Result<(), AllocError> {
+        let far = at(self.far.as_slice(), from).saturating_add(bends.price(dart));
+        self.enter(sphere.face(dart), dart, far)
     }
 
     /// Comes over a dart into a face that is so far then, which waits if that is a shorter way to it.
@@ -236,6 +245,7 @@ fn spread(sphere: &Sphere, bends: &Bends, sources: &[bool]) -> Result<Reach, Out
         let Some(from) = reach.queue.as_slice().get(next).copied() else {
             break;
         };
+        put(reach.waiting.as_mut_slice(), from, false);
         reach.leave(sphere, bends, from)?;
     }
     Ok(reach)
@@ -250,9 +260,14 @@ fn pass(sphere: &Sphere, bends: &mut Bends, reach: &Reach, sink: usize) -> usize
             break;
         }
         let twin = sphere.twin(came - 1);
-        add(bends.lefts.as_mut_slice(), came - 1, 2);
-        add(bends.lefts.as_mut_slice(), twin, -2);
+        turn_twice(bends, came - 1, twin);
         face = sphere.face(twin);
     }
     face
+}
+
+/// Lets a dart turn twice more to the left, and so its twin twice more to the right.
+fn turn_twice(bends: &mut Bends, dart: usize, twin: usize) {
+    add(bends.lefts.as_mut_slice(), dart, 2);
+    add(bends.lefts.as_mut_slice(), twin, -2);
 }

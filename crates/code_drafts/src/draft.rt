@@ -1,4 +1,6 @@
 //! Drafts of grid diagrams.
+ghost use Rattle.std.specs.Prelude.{◌≡◌, ◌<◌, ◌≤◌, ◌+◌, ◌*◌, ◌/◌, IfOk, OnOk};
+ghost use Rattle.code_drafts.specs.Drawn.{IsDrawn, IsBlank, HasMore};
 
 use crate::bends::bends_of;
 use crate::lines::DrawnLines;
@@ -23,31 +25,53 @@ pub struct Draft {
     pub columns: usize,
 }
 
-/// A draft of a diagram of a code, of at most `most` columns.
-pub fn draft_of(alloc: Global, code: &Code, most: usize) -> Result<Draft, OutOfMemory> {
+impl Draft {
+    /// So many columns, of which none has a mark yet.
+    fn without(alloc: Global, columns: usize) -> Draft
+        ensures blank { IsBlank result }
+        ensures columns { result.columns ≡ columns }
+    {
+        Draft {
+            x: Vec::new(alloc),
+            o: Vec::new(alloc),
+            crossings: Vec::new(alloc),
+            columns,
+        }
+    }
+}
+
+/// A draft of a diagram of a code, of at most `most` columns; of one with more only the number of columns is given.
+///
+/// The code must have no fault (`first_code_fault` of code_rows): of another one, the draft may be one of no diagram, or of that of
+/// another code. It fails only if memory runs out.
+pub fn draft_of(alloc: Global, code: &Code, most: usize) -> Result<Draft, OutOfMemory>
+    ensures drawn { IfOk result (λ draft. draft.columns ≤ most → IsDrawn code.now draft) }
+    ensures blank { IfOk result (λ draft. most < draft.columns → IsBlank draft) }
+{
     let sphere = Sphere::of(alloc, code)?;
     let bends = bends_of(&sphere)?;
     let lines = DrawnLines::of(&sphere, &bends)?;
-    let loops = code.loops as usize;
-    let mut draft = Draft {
-        x: Vec::new(alloc),
-        o: Vec::new(alloc),
-        crossings: Vec::new(alloc),
-        columns: (lines.count / 2).saturating_add(loops.saturating_mul(2)),
-    };
-    if draft.columns <= most {
-        draw(&mut draft, &lines, loops)?;
+    let columns = lines.count / 2 + 2 * (code.loops as usize);
+    let draft = Draft::without(alloc, columns);
+    if columns > most {
+        return Ok(draft);
     }
-    Ok(draft)
+    draw(draft, &lines, code)
 }
 
-/// Draws these lines, and so many components without a crossing.
-fn draw(draft: &mut Draft, lines: &DrawnLines, loops: usize) -> Result<(), OutOfMemory> {
+/// Draws these lines, the components without a crossing, and the crossings.
+fn draw(draft: Draft, lines: &DrawnLines, code: &Code) -> Result<Draft, OutOfMemory>
+    requires blank { IsBlank draft }
+    requires columns { draft.columns ≡ lines.now.count / 2 + 2 * code.now.loops }
+    ensures drawn { IfOk result (λ drawn. IsDrawn code.now drawn) }
+    ensures columns { IfOk result (λ drawn. drawn.columns ≡ draft.columns) }
+{
+    let mut draft = draft;
     let layout = layout_of(lines)?;
-    push_marks(draft, lines, &layout)?;
-    push_loops(draft, loops)?;
-    push_crossings(draft, lines, &layout)?;
-    Ok(())
+    push_marks(&mut draft, lines, &layout)?;
+    push_loops(&mut draft, code.loops as usize)?;
+    push_crossings(&mut draft, lines, &layout, code.crossings.as_slice().len())?;
+    Ok(draft)
 }
 
 /// The columns of the vertical lines and the rows of the others, by line.
@@ -69,39 +93,46 @@ fn layout_of(lines: &DrawnLines) -> Result<LinePlaces, OutOfMemory> {
     Ok(LinePlaces { columns, rows })
 }
 
-/// Puts the marks of the lines: each vertical one has its X on the line before and its O on the line after.
-fn push_marks(
-    draft: &mut Draft,
-    lines: &DrawnLines,
-    layout: &LinePlaces,
-) -> Result<(), AllocError> {
-    for column in 0..lines.count {
-        push_marks_in(draft, lines, layout, column)?;
+/// Puts the marks of the lines, of which each second one is vertical, into their columns.
+fn push_marks(draft: &mut Draft, lines: &DrawnLines, layout: &LinePlaces) -> Result<(), AllocError>
+    ensures { OnOk result (HasMore (lines.entry.now.count / 2) 0 draft.old draft.new) }
+{
+    for column in 0..lines.count / 2 {
+        let line = line_in(lines, layout, column);
+        push_column(draft, lines, layout, line)?;
     }
     Ok(())
 }
 
-/// Puts the marks of the lines in a column.
-fn push_marks_in(
+/// The vertical line in a column, or line 0 where there is none.
+fn line_in(lines: &DrawnLines, layout: &LinePlaces, column: usize) -> usize {
+    let (upright, columns) = (lines.upright.as_slice(), layout.columns.as_slice());
+    (0..lines.count)
+        .find(|line| at(upright, *line) && at(columns, *line) == column)
+        .unwrap_or(0)
+}
+
+/// Puts the marks of a vertical line into the next column: its X on the line before and its O on the line after.
+fn push_column(
     draft: &mut Draft,
     lines: &DrawnLines,
     layout: &LinePlaces,
-    column: usize,
-) -> Result<(), AllocError> {
-    let (columns, rows) = (layout.columns.as_slice(), layout.rows.as_slice());
-    for line in 0..lines.count {
-        if at(lines.upright.as_slice(), line) && at(columns, line) == column {
-            let x = at(rows, at(lines.before.as_slice(), line));
-            let o = at(rows, at(lines.after.as_slice(), line));
-            draft.x.push(small(x))?;
-            draft.o.push(small(o))?;
-        }
-    }
+    line: usize,
+) -> Result<(), AllocError>
+    ensures { OnOk result (HasMore 1 0 draft.old draft.new) }
+{
+    let rows = layout.rows.as_slice();
+    let x = at(rows, at(lines.before.as_slice(), line));
+    let o = at(rows, at(lines.after.as_slice(), line));
+    draft.x.push(small(x))?;
+    draft.o.push(small(o))?;
     Ok(())
 }
 
 /// Puts the components without a crossing after the others, each of two columns and rows.
-fn push_loops(draft: &mut Draft, loops: usize) -> Result<(), AllocError> {
+fn push_loops(draft: &mut Draft, loops: usize) -> Result<(), AllocError>
+    ensures { OnOk result (HasMore (2 * loops) 0 draft.old draft.new) }
+{
     for _ in 0..loops {
         let next = draft.x.len();
         draft.x.push(small(next))?;
@@ -112,25 +143,29 @@ fn push_loops(draft: &mut Draft, loops: usize) -> Result<(), AllocError> {
     Ok(())
 }
 
-/// Puts the crossings, each where its vertical strand over meets the other one.
+/// Puts so many crossings, each where its vertical strand over meets the other one.
 fn push_crossings(
     draft: &mut Draft,
     lines: &DrawnLines,
     layout: &LinePlaces,
-) -> Result<(), AllocError> {
-    let sphere = lines.sphere;
-    for root in 0..sphere.darts {
-        if root % 4 == 0 {
-            let over = if sphere.leaves(turned(root, 1)) { 1 } else { 3 };
-            let column = at(
-                layout.columns.as_slice(),
-                lines.behind(turned(root, over), 0),
-            );
-            let row = at(layout.rows.as_slice(), lines.behind(turned(root, 2), 0));
-            draft.crossings.push((small(column), small(row)))?;
-        }
+    count: usize,
+) -> Result<(), AllocError>
+    ensures { OnOk result (HasMore 0 count draft.old draft.new) }
+{
+    for v in 0..count {
+        let place = place_of(lines, layout, v.wrapping_mul(4));
+        draft.crossings.push(place)?;
     }
     Ok(())
+}
+
+/// The column and the row of the crossing whose first dart this is.
+fn place_of(lines: &DrawnLines, layout: &LinePlaces, root: usize) -> (u8, u8) {
+    let leaves = lines.sphere.leaves(turned(root, 1));
+    let over = turned(root, if leaves { 1 } else { 3 });
+    let column = at(layout.columns.as_slice(), lines.behind(over, 0));
+    let row = at(layout.rows.as_slice(), lines.behind(turned(root, 2), 0));
+    (small(column), small(row))
 }
 
 /// A number that is to be below 256; else 255.

@@ -1,5 +1,5 @@
 //! Drafts of grid diagrams of planar diagram codes, drawn with few columns.
-//! Nothing is proved of a draft except that it is made in bounded time; code_grids computes the code of the diagram and compares it.
+//! That a draft is a diagram of the code is not proved here: code_grids computes the code of the diagram and compares it.
 #![tactic(auto)]
 
 mod bends;

@@ -27,7 +27,7 @@ pub(crate) struct DrawnLines<'a> {
 }
 
 /// A piece of a face's boundary: the line on which it lies, and the direction in which one goes along with the face on the left.
-#[derive(Clone, Copy, Debug, PartialEq, Eq)]
+#[derive(Clone, Copy, PartialEq, Eq)]
 pub(crate) struct FaceSide {
     pub(crate) direction: usize,
     pub(crate) line: usize,
@@ -52,7 +52,7 @@ impl<'a> DrawnLines<'a> {
         Ok(lines)
     }
 
-    /// As many lines as there are, of which only is known behind which turns they come.
+    /// As many lines as there are turns; of each is known only behind which turn it comes.
     fn blank(sphere: &'a Sphere, bends: &'a Bends) -> Result<DrawnLines<'a>, OutOfMemory> {
         let alloc = sphere.alloc;
         let (firsts, count) = firsts_of(sphere, bends)?;
@@ -133,7 +133,7 @@ impl<'a> DrawnLines<'a> {
         }
     }
 
-    /// Finds this for the lines behind the turns of a dart by which a strand leaves.
+    /// Finds for the line behind each turn of a dart by which a strand leaves the one before, and whether it is vertical.
     fn find_lines_along(&mut self, dart: usize) {
         for turn in 0..self.bends.count(dart) {
             self.find_line(dart, turn);
@@ -157,21 +157,24 @@ impl<'a> DrawnLines<'a> {
         out: &mut Vec<FaceSide>,
         dart: usize,
     ) -> Result<(), OutOfMemory> {
-        let count = self.bends.count(dart);
-        let outward = self.sphere.leaves(dart);
-        let twin = self.sphere.twin(dart);
-        let along = if outward { dart } else { twin };
+        let quarters: usize = if self.bends.is_left(dart) { 1 } else { 3 };
         let mut direction = at(self.headings.as_slice(), dart) % 4;
-        let turn: usize = if self.bends.is_left(dart) { 1 } else { 3 };
-        for passed in 0..count.saturating_add(1) {
-            let rest = count.saturating_sub(passed);
-            // how many turns of the strand lie before this piece
-            let turns = if outward { passed } else { rest };
-            let line = self.behind(along, turns);
+        for turns in 0..self.bends.count(dart).saturating_add(1) {
+            let line = self.line_along(dart, turns);
             out.push(FaceSide { direction, line })?;
-            direction = rotated(direction, turn);
+            direction = rotated(direction, quarters);
         }
         Ok(())
+    }
+
+    /// The line behind so many turns of a dart, where the strand may go either way along it.
+    fn line_along(&self, dart: usize, turns: usize) -> usize {
+        if self.sphere.leaves(dart) {
+            self.behind(dart, turns)
+        } else {
+            let before = self.bends.count(dart).saturating_sub(turns);
+            self.behind(self.sphere.twin(dart), before)
+        }
     }
 }
 

@@ -9,7 +9,7 @@ use std::alloc::{AllocError, Global};
 const MAX_CUTS: usize = 10_000_000;
 
 /// A line that is to lie before another: to its left, or below it.
-#[derive(Clone, Copy, Debug, PartialEq, Eq)]
+#[derive(Clone, Copy, PartialEq, Eq)]
 pub(crate) struct LinePair {
     pub(crate) low: usize,
     pub(crate) high: usize,
@@ -47,14 +47,24 @@ impl LinePairs {
             let Some(face) = rest.pop() else {
                 break;
             };
-            let Some(last) = first_right(face.as_slice()) else {
-                self.push_rectangle(face.as_slice())?;
-                continue;
-            };
-            let (one, two) = halves(alloc, face.as_slice(), last)?;
-            rest.push(one)?;
-            rest.push(two)?;
+            self.cut_once(alloc, face.as_slice(), &mut rest)?;
         }
+        Ok(())
+    }
+
+    /// Cuts a face in two, which are put behind the rest that is to be cut; of a rectangle it notes what the sides say.
+    fn cut_once(
+        &mut self,
+        alloc: Global,
+        face: &[FaceSide],
+        rest: &mut Vec<Vec<FaceSide>>,
+    ) -> Result<(), OutOfMemory> {
+        let Some(last) = first_right(face) else {
+            return self.push_rectangle(face);
+        };
+        let (one, two) = halves(alloc, face, last)?;
+        rest.push(one)?;
+        rest.push(two)?;
         Ok(())
     }
 

@@ -26,7 +26,7 @@ pub(crate) struct Sphere {
 }
 
 /// A hop from a dart to the next of its crossing, or to the other end of its edge.
-#[derive(Clone, Copy, Debug, PartialEq, Eq)]
+#[derive(Clone, Copy, PartialEq, Eq)]
 pub(crate) struct Hop {
     pub(crate) from: usize,
     pub(crate) to: usize,
@@ -108,14 +108,19 @@ fn leaves_by(crossing: &Crossing, slot: usize) -> bool {
 fn pair_up(sphere: &mut Sphere, crossings: &[Crossing]) -> Result<(), OutOfMemory> {
     let mut seen = table(sphere.alloc, sphere.darts)?;
     for (v, crossing) in crossings.iter().enumerate() {
-        for slot in 0..4 {
-            let dart = v.wrapping_mul(4).wrapping_add(slot);
-            join_end(sphere, seen.as_mut_slice(), edge_at(crossing, slot), dart);
-            let leaves = leaves_by(crossing, slot);
-            put(sphere.leaves.as_mut_slice(), dart, leaves);
-        }
+        pair_up_at(sphere, seen.as_mut_slice(), v, crossing);
     }
     Ok(())
+}
+
+/// Joins the ends of edges at crossing v to the ones seen before them, and marks the darts by which strands leave it.
+fn pair_up_at(sphere: &mut Sphere, seen: &mut [usize], v: usize, crossing: &Crossing) {
+    for slot in 0..4 {
+        let dart = v.wrapping_mul(4).wrapping_add(slot);
+        join_end(sphere, seen, edge_at(crossing, slot), dart);
+        let leaves = leaves_by(crossing, slot);
+        put(sphere.leaves.as_mut_slice(), dart, leaves);
+    }
 }
 
 /// Joins a dart to the one of its edge that was seen before it, or notes the dart plus 1 as the first one seen.
@@ -176,12 +181,22 @@ fn number_part(sphere: &mut Sphere, seen: &mut [bool], root: usize) -> Result<()
         let Some(hop) = sphere.hops.as_slice().get(next).copied() else {
             break;
         };
-        put(sphere.parts.as_mut_slice(), hop.to, part);
-        note(sphere, seen, hop.to, turned(hop.to, 1))?;
-        let twin = sphere.twin(hop.to);
-        note(sphere, seen, hop.to, twin)?;
+        number_dart(sphere, seen, hop.to, part)?;
     }
     Ok(())
+}
+
+/// Gives a dart the number of its part, and notes the hops from it.
+fn number_dart(
+    sphere: &mut Sphere,
+    seen: &mut [bool],
+    dart: usize,
+    part: usize,
+) -> Result<(), AllocError> {
+    put(sphere.parts.as_mut_slice(), dart, part);
+    note(sphere, seen, dart, turned(dart, 1))?;
+    let twin = sphere.twin(dart);
+    note(sphere, seen, dart, twin)
 }
 
 /// Notes a hop, if its end wasn't seen.

@@ -1,6 +1,6 @@
 //! Grid diagrams of planar diagram codes, by the drafts of code_drafts. The code of an answered diagram is the given one, with other names
 //! of crossings and edges.
-//! Nothing is proved of a draft; `grid_of_code` computes the code of the diagram and compares it.
+//! That a draft is a diagram of the code is not proved; `grid_of_code` computes the code of the diagram and compares it.
 #![tactic(auto)]
 
 mod drawing;

@@ -7,7 +7,7 @@ use Rattle.text_lines.specs.NumberTokens.{number_of}
 use Rattle.text_items.specs.declared.fault.TextFault.{TextFault}
 use Rattle.text_items.specs.declared.fault.TextFault.TheVariants.{Malformed, Limit}
 use Rattle.text_items.specs.Reading.{◌>>=◌, each_token}
-use Rattle.text_items.specs.NumberLines.{is_long}
+use Rattle.text_items.specs.NumberLists.{is_long}
 use Rattle.code_rows.specs.declared.code_fault.TheConstants.{MAX_CROSSINGS}
 use Rattle.code_rows.specs.declared.row.CodeRow.{CodeRow}
 

@@ -12,7 +12,7 @@ use text_items::reading::word;
 use text_lines::{Line, Lines, number};
 
 /// A passage of a strand through a crossing.
-#[derive(Clone, Copy, Debug, PartialEq, Eq)]
+#[derive(Clone, Copy, PartialEq, Eq)]
 pub struct GaussPassage {
     /// Whether the strand is the one over.
     pub over: bool,
@@ -67,19 +67,10 @@ fn passage_by(
 ) -> Option<GaussPassage>
     ensures { result ≡ passage_by over crossing positive }
 {
-    let Some(over) = over else {
-        return None;
-    };
-    let Some(crossing) = crossing else {
-        return None;
-    };
-    let Some(positive) = positive else {
-        return None;
-    };
     Some(GaussPassage {
-        over,
-        crossing,
-        positive,
+        over: over?,
+        crossing: crossing?,
+        positive: positive?,
     })
 }
 

@@ -33,18 +33,25 @@ fn row_numbers(alloc: Global, line: &mut Line) -> Result<Vec<u32>, TextFault>
     Ok(names)
 }
 
+/// The row of four numbers.
+fn row_of(first: u32, second: u32, third: u32, fourth: u32) -> CodeRow
+    ensures { result ≡ record { first = first; second = second; third = third; fourth = fourth } }
+{
+    CodeRow {
+        first,
+        second,
+        third,
+        fourth,
+    }
+}
+
 /// Appends the rows of these numbers, four to a row.
 fn push_rows(rows: &mut Vec<CodeRow>, names: &[u32]) -> Result<(), AllocError>
     ensures { OnOk result (rows.new.items ≡ rows.old.items ++ rows_of_numbers names.now) }
 {
     let mut left = names;
     while let [first, second, third, fourth, after @ ..] = left {
-        rows.push(CodeRow {
-            first: *first,
-            second: *second,
-            third: *third,
-            fourth: *fourth,
-        })?;
+        rows.push(row_of(*first, *second, *third, *fourth))?;
         left = after;
     }
     Ok(())
@@ -67,11 +74,19 @@ fn push_line(
         return Err(TextFault::Malformed { line: at });
     }
     push_rows(rows, names.as_slice())?;
-    if any_long(names.as_slice()) || rows.len() > MAX_CROSSINGS {
-        return Err(TextFault::Limit { line: at });
+    check_rows(most, at, any_long(names.as_slice()), rows.as_slice())
+}
+
+/// `Limit` if a number of the line is too long, or if there are more than `MAX_CROSSINGS` rows; else `Malformed` if there are more than `most`.
+fn check_rows(most: usize, line: usize, has_long: bool, rows: &[CodeRow]) -> Result<(), TextFault>
+    ensures rows { Gives (λ _. rows.now) result (rows_or_fault most line has_long rows.now) }
+    ensures few { OnOk result (length rows.now ≤ MAX_CROSSINGS) }
+{
+    if has_long || rows.len() > MAX_CROSSINGS {
+        return Err(TextFault::Limit { line });
     }
     if rows.len() > most {
-        return Err(TextFault::Malformed { line: at });
+        return Err(TextFault::Malformed { line });
     }
     Ok(())
 }
