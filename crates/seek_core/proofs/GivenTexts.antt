@@ -15,7 +15,7 @@ use Rattle.knot_text.proofs.Steady.{bind_ok, ok_is}
 use Rattle.evidence_core.specs.declared.blocks.Block.{Block}
 use Rattle.evidence_core.specs.declared.evidence.Evidence.{Evidence}
 use Rattle.evidence_core.specs.declared.evidence.Evidence.TheVariants.{Linking}
-use Rattle.number_text.specs.Blocks.{blocks, blocks_in, blocks_of}
+use Rattle.number_text.specs.Blocks.{listed_blocks, blocks_in, blocks_of}
 use Rattle.quandle_core.specs.declared.operations.TheConstants.{MAX_LARGE_ORDER}
 use Rattle.evidence_core.specs.Links.{linked_of}
 use Rattle.evidence_core.specs.Links.{are_same_links}
@@ -31,7 +31,7 @@ use Rattle.seek_core.specs.Given.{more_blocks}
 given_texts : (bytes : List ℕ) (given : List Block) → blocks_of bytes ≡ Ok given → AllByRecursion HasBlockText given
 unfolding blocks_in
 given_texts bytes given is =
-    let listed = bind_ok (blocks MAX_LARGE_ORDER MAX_QUANDLES (text_of bytes)) (λ listed. text_end listed.1 >>= λ end. Ok listed.0) given is in
+    let listed = bind_ok (listed_blocks MAX_LARGE_ORDER MAX_QUANDLES (text_of bytes)) (λ listed. text_end listed.1 >>= λ end. Ok listed.0) given is in
     let ended = bind_ok (text_end listed.0.1) (λ end. Ok listed.0.0) given listed.2 in
     subst (λ (bs : List Block). AllByRecursion HasBlockText bs) (ok_is listed.0.0 given ended.2)
     (blocks_text MAX_LARGE_ORDER MAX_QUANDLES (text_of bytes) listed.0.1 listed.0.0 (omega arith) listed.1)

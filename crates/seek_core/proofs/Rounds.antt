@@ -16,15 +16,15 @@ use Rattle.quandle_core.specs.Names.{NamedQuandle}
 use Rattle.verdict_core.specs.declared.verdict.Verdict.{Verdict}
 use Rattle.quandle_core.proofs.Named.{named_is}
 use Rattle.knot_text.specs.Printed.{HasQuandleText}
-use Rattle.pair_verdict.specs.Separates.{separates, first_separating, IsSeparation}
+use Rattle.pair_verdict.specs.Separates.{separates, first_separating}
 use Rattle.evidence_core.specs.declared.blocks.Block.{Block}
 use Rattle.evidence_core.specs.declared.evidence.Evidence.{Evidence}
 use Rattle.number_text.specs.declared.said.Said.{Said}
 use Rattle.number_text.specs.declared.said.Said.TheVariants as said
-use Rattle.number_search.specs.declared.seed_pair.SeedPair.{SeedPair}
 use Rattle.number_search.specs.Told.{told_by_linking, told_by_blocks, told_apart}
-use Rattle.seek_core.specs.Found.{IsEqualBy, IsVerdictBy, IsVerdictWhere, IsFoundWhere}
-use Rattle.seek_core.specs.Sizes.{blocks_of_size, as_tried}
+use Rattle.seek_core.specs.Found.{IsEqualBy, IsVerdictBy, IsVerdictOn, IsFoundOn}
+use Rattle.seek_core.specs.Pairs.{SeededPair}
+use Rattle.seek_core.specs.Sizes.{smaller_blocks, larger_blocks, as_tried}
 use Rattle.seek_core.proofs.LargerLast.{larger_last}
 
 -- ---- no quandle separates diagrams that are joined
@@ -52,10 +52,10 @@ equal_verdict d e qs v texts equal =
 
 -- ---- a verdict, in the last rounds
 
-pub joined_verdict : (d e : Diagram) (qs : List NamedQuandle) (o : Option Verdict) → AllByRecursion HasQuandleText qs → IfSome o (λ v. IsEqualBy d e v)
-    → is_some o ≡ true → IsVerdictWhere d e (first_separating d e qs) o
-joined_verdict d e qs None texts equal some = absurd cc
-joined_verdict d e qs (Some v) texts equal some = equal_verdict d e qs v texts equal
+pub joined_verdict : (p : SeededPair) (qs : List NamedQuandle) (o : Option Verdict) → AllByRecursion HasQuandleText qs
+    → IfSome o (λ v. IsEqualBy p.first p.second v) → is_some o ≡ true → IsVerdictOn p qs o
+joined_verdict p qs None texts equal some = absurd cc
+joined_verdict p qs (Some v) texts equal some = equal_verdict p.first p.second qs v texts equal
 
 -- ---- all rounds: the first quandles, and the others behind them
 
@@ -71,20 +71,19 @@ whole_verdict d e qs n (Some q) v texts front told =
     subst (λ (r : Option NamedQuandle). IsVerdictBy d e r v) (sym whole) told
 whole_verdict d e qs n None v texts front equal = equal_verdict d e qs v texts equal
 
-pub front_found : (d e : Diagram) (qs front : List NamedQuandle) (n : ℕ) (evidence : Option Evidence) (o : Option Said) → AllByRecursion HasQuandleText qs
-    → front ≡ take n qs → IsFoundWhere d e (first_separating d e front) evidence o → is_some o ≡ true
-    → IsFoundWhere d e (first_separating d e qs) evidence o
-front_found d e qs front n evidence None texts is found some = absurd cc
-front_found d e qs front n evidence (Some (said.Verdict v)) texts is found some =
-    whole_verdict d e qs n (first_separating d e front) v texts (ap (first_separating d e) (sym is)) found
-front_found d e qs front n evidence (Some (said.Evidence x)) texts is found some = found
+pub front_found : (p : SeededPair) (qs front : List NamedQuandle) (n : ℕ) (blocks : List Block) (o : Option Said) → AllByRecursion HasQuandleText qs
+    → front ≡ take n qs → IsFoundOn p front blocks o → is_some o ≡ true → IsFoundOn p qs blocks o
+front_found p qs front n blocks None texts is found some = absurd cc
+front_found p qs front n blocks (Some (said.Verdict v)) texts is found some =
+    whole_verdict p.first p.second qs n (first_separating p.first p.second front) v texts (ap (first_separating p.first p.second) (sym is)) found
+front_found p qs front n blocks (Some (said.Evidence x)) texts is found some = found
 
 -- nothing is found in front
-neither : (d e : Diagram) (q : Option NamedQuandle) (evidence : Option Evidence) (o : Option Said) → IsFoundWhere d e q evidence o → is_some o ≡ false
-    → (q ≡ None) × (evidence ≡ None)
-neither d e q evidence None found none = found
-neither d e q evidence (Some (said.Verdict v)) found none = absurd cc
-neither d e q evidence (Some (said.Evidence x)) found none = absurd cc
+neither : (p : SeededPair) (qs : List NamedQuandle) (blocks : List Block) (o : Option Said) → IsFoundOn p qs blocks o → is_some o ≡ false
+    → (first_separating p.first p.second qs ≡ None) × (told_apart p.first p.second p.seeds blocks ≡ None)
+neither p qs blocks None found none = found
+neither p qs blocks (Some (said.Verdict v)) found none = absurd cc
+neither p qs blocks (Some (said.Evidence x)) found none = absurd cc
 
 others_are : (d e : Diagram) (qs front others : List NamedQuandle) (n : ℕ) → front ≡ take n qs → others ≡ drop n qs → first_separating d e front ≡ None
     → first_separating d e others ≡ first_separating d e qs
@@ -93,50 +92,49 @@ others_are d e qs front others n is behind none =
     ∙ sym (ap (λ o. option_or o (first_separating d e (drop n qs))) (ap (first_separating d e) (sym is) ∙ none))
     ∙ sym (parted d e qs n)
 
-pub later_verdict : (d e : Diagram) (qs front others : List NamedQuandle) (n : ℕ) (evidence : Option Evidence) (o : Option Said)
-    (p : Option Verdict) (v : Verdict)
-    → front ≡ take n qs → others ≡ drop n qs → IsFoundWhere d e (first_separating d e front) evidence o → is_some o ≡ false
-    → IsVerdictWhere d e (first_separating d e others) p → p ≡ Some v → IsVerdictBy d e (first_separating d e qs) v
-later_verdict d e qs front others n evidence o p v is behind found none later some =
-    let nothing = neither d e (first_separating d e front) evidence o found none in
-    subst (λ (q : Option NamedQuandle). IsVerdictBy d e q v) (others_are d e qs front others n is behind nothing.0)
-    (subst (λ (r : Option Verdict). IsVerdictWhere d e (first_separating d e others) r) some later)
+pub later_verdict : (p : SeededPair) (qs front others : List NamedQuandle) (n : ℕ) (blocks : List Block) (o : Option Said)
+    (later : Option Verdict) (v : Verdict)
+    → front ≡ take n qs → others ≡ drop n qs → IsFoundOn p front blocks o → is_some o ≡ false
+    → IsVerdictOn p others later → later ≡ Some v → IsVerdictBy p.first p.second (first_separating p.first p.second qs) v
+later_verdict p qs front others n blocks o later v is behind found none told some =
+    let nothing = neither p front blocks o found none in
+    subst (λ (q : Option NamedQuandle). IsVerdictBy p.first p.second q v) (others_are p.first p.second qs front others n is behind nothing.0)
+    (subst (λ (r : Option Verdict). IsVerdictOn p others r) some told)
 
-pub nothing_later : (d e : Diagram) (qs front others : List NamedQuandle) (n : ℕ) (evidence : Option Evidence) (o : Option Said) (p : Option Verdict)
-    → front ≡ take n qs → others ≡ drop n qs → IsFoundWhere d e (first_separating d e front) evidence o → is_some o ≡ false
-    → IsVerdictWhere d e (first_separating d e others) p → p ≡ None → (first_separating d e qs ≡ None) × (evidence ≡ None)
-nothing_later d e qs front others n evidence o p is behind found none later last =
-    let nothing = neither d e (first_separating d e front) evidence o found none in
-    let no_quandle : first_separating d e others ≡ None = subst (λ (r : Option Verdict). IsVerdictWhere d e (first_separating d e others) r) last later in
-    (sym (others_are d e qs front others n is behind nothing.0) ∙ no_quandle, nothing.1)
+pub nothing_later : (p : SeededPair) (qs front others : List NamedQuandle) (n : ℕ) (blocks : List Block) (o : Option Said) (later : Option Verdict)
+    → front ≡ take n qs → others ≡ drop n qs → IsFoundOn p front blocks o → is_some o ≡ false → IsVerdictOn p others later → later ≡ None
+    → (first_separating p.first p.second qs ≡ None) × (told_apart p.first p.second p.seeds blocks ≡ None)
+nothing_later p qs front others n blocks o later is behind found none told last =
+    let nothing = neither p front blocks o found none in
+    let no_quandle : first_separating p.first p.second others ≡ None = subst (λ (r : Option Verdict). IsVerdictOn p others r) last told in
+    (sym (others_are p.first p.second qs front others n is behind nothing.0) ∙ no_quandle, nothing.1)
 
 -- ---- the last round: the larger blocks
 
-pub found_before : (d e : Diagram) (s : SeedPair) (blocks : List Block) (q : Option NamedQuandle) (o : Option Said)
-    → IsFoundWhere d e q (told_apart d e s (blocks_of_size false blocks)) o → is_some o ≡ true → IsFoundWhere d e q (told_apart d e s (as_tried blocks)) o
-found_before d e s blocks q None found some = absurd cc
-found_before d e s blocks q (Some (said.Verdict v)) found some = found
-found_before d e s blocks q (Some (said.Evidence x)) found some =
-    larger_last d e s blocks ∙ ap (λ (p : Option Evidence). option_or p (told_by_blocks d e s (blocks_of_size true blocks))) found
+pub found_before : (p : SeededPair) (qs : List NamedQuandle) (blocks : List Block) (o : Option Said) → IsFoundOn p qs (smaller_blocks blocks) o
+    → is_some o ≡ true → IsFoundOn p qs (as_tried blocks) o
+found_before p qs blocks None found some = absurd cc
+found_before p qs blocks (Some (said.Verdict v)) found some = found
+found_before p qs blocks (Some (said.Evidence x)) found some =
+    larger_last p.first p.second p.seeds blocks
+    ∙ ap (λ (e : Option Evidence). option_or e (told_by_blocks p.first p.second p.seeds (larger_blocks blocks))) found
 
 -- where nothing is found before, the larger blocks have the say
-larger_alone : (d e : Diagram) (s : SeedPair) (blocks : List Block) (q : Option NamedQuandle) (o : Option Said)
-    → IsFoundWhere d e q (told_apart d e s (blocks_of_size false blocks)) o → is_some o ≡ false
-    → told_apart d e s (as_tried blocks) ≡ told_by_blocks d e s (blocks_of_size true blocks)
-larger_alone d e s blocks q o found none =
-    let nothing = neither d e q (told_apart d e s (blocks_of_size false blocks)) o found none in
-    larger_last d e s blocks ∙ ap (λ (p : Option Evidence). option_or p (told_by_blocks d e s (blocks_of_size true blocks))) nothing.1
+larger_alone : (p : SeededPair) (qs : List NamedQuandle) (blocks : List Block) (o : Option Said) → IsFoundOn p qs (smaller_blocks blocks) o
+    → is_some o ≡ false → told_apart p.first p.second p.seeds (as_tried blocks) ≡ told_by_blocks p.first p.second p.seeds (larger_blocks blocks)
+larger_alone p qs blocks o found none =
+    let nothing = neither p qs (smaller_blocks blocks) o found none in
+    larger_last p.first p.second p.seeds blocks
+    ∙ ap (λ (e : Option Evidence). option_or e (told_by_blocks p.first p.second p.seeds (larger_blocks blocks))) nothing.1
 
-pub found_last : (d e : Diagram) (s : SeedPair) (blocks : List Block) (q : Option NamedQuandle) (o : Option Said) (p : Option Evidence) (x : Evidence)
-    → IsFoundWhere d e q (told_apart d e s (blocks_of_size false blocks)) o → is_some o ≡ false → p ≡ told_by_blocks d e s (blocks_of_size true blocks)
-    → p ≡ Some x
-    → told_apart d e s (as_tried blocks) ≡ Some x
-found_last d e s blocks q o p x found none is some = larger_alone d e s blocks q o found none ∙ sym is ∙ some
+pub found_last : (p : SeededPair) (qs : List NamedQuandle) (blocks : List Block) (o : Option Said) (last : Option Evidence) (x : Evidence)
+    → IsFoundOn p qs (smaller_blocks blocks) o → is_some o ≡ false → last ≡ told_by_blocks p.first p.second p.seeds (larger_blocks blocks)
+    → last ≡ Some x → told_apart p.first p.second p.seeds (as_tried blocks) ≡ Some x
+found_last p qs blocks o last x found none is some = larger_alone p qs blocks o found none ∙ sym is ∙ some
 
-pub nothing_last : (d e : Diagram) (s : SeedPair) (blocks : List Block) (q : Option NamedQuandle) (o : Option Said) (p : Option Evidence)
-    → IsFoundWhere d e q (told_apart d e s (blocks_of_size false blocks)) o → is_some o ≡ false → p ≡ told_by_blocks d e s (blocks_of_size true blocks)
-    → p ≡ None
-    → (q ≡ None) × (told_apart d e s (as_tried blocks) ≡ None)
-nothing_last d e s blocks q o p found none is last =
-    let nothing = neither d e q (told_apart d e s (blocks_of_size false blocks)) o found none in
-    (nothing.0, larger_alone d e s blocks q o found none ∙ sym is ∙ last)
+pub nothing_last : (p : SeededPair) (qs : List NamedQuandle) (blocks : List Block) (o : Option Said) (last : Option Evidence)
+    → IsFoundOn p qs (smaller_blocks blocks) o → is_some o ≡ false → last ≡ told_by_blocks p.first p.second p.seeds (larger_blocks blocks)
+    → last ≡ None → (first_separating p.first p.second qs ≡ None) × (told_apart p.first p.second p.seeds (as_tried blocks) ≡ None)
+nothing_last p qs blocks o last found none is empty =
+    let nothing = neither p qs (smaller_blocks blocks) o found none in
+    (nothing.0, larger_alone p qs blocks o found none ∙ sym is ∙ empty)

@@ -1,5 +1,5 @@
 -- What is found of two diagrams: by the first quandle that separates them, or by moves.
-use Rattle.std.proofs.Common.{rules, ◌≡◌, ◌∙◌, refl, ap, sym, subst, ℕ, List, [], ◌++◌, Option, Some, None, Ok, IfSome, All}
+use Rattle.std.proofs.Common.{rules, ◌≡◌, ◌∙◌, refl, ap, sym, subst, ℕ, List, [], ◌++◌, Option, Some, None, Ok, IfSome, All, count_by}
 use Rattle.std.proofs.lemmas.List.Elements.{All-append, All-filter, recursion_from_All}
 use Rattle.std.specs.Option.{option_or}
 use Rattle.grid_core.specs.Diagram.{Diagram, IsGrid}
@@ -20,7 +20,7 @@ use Rattle.number_text.specs.declared.said.Said.{Said}
 use Rattle.number_text.specs.declared.said.Said.TheVariants as said
 use Rattle.certificates.specs.Printed.{HasBlockText}
 use Rattle.number_search.specs.declared.seed_pair.SeedPair.{SeedPair}
-use Rattle.number_search.specs.Told.{told_by_linking, told_by_blocks, told_apart}
+use Rattle.number_search.specs.Told.{ArePlansOf, fits_both, told_by_linking, told_by_blocks, told_apart}
 use Rattle.number_search.proofs.Held.{told_holds}
 use Rattle.certificate_check.specs.Decision.{IsFindingOf}
 use Rattle.certificate_check.proofs.HeldTexts.{held_text}
@@ -28,8 +28,9 @@ use Rattle.seek_core.specs.Candidates.{fitting, candidate_quandles}
 use Rattle.seek_core.specs.Formulas.{formula_quandles}
 use Rattle.seek_core.specs.declared.finding.SearchOutcome.{SearchOutcome}
 use Rattle.seek_core.specs.declared.answer.Tried.{Tried}
-use Rattle.seek_core.specs.Found.{IsVerdictBy, IsFoundWhere, IsSearchOn, IsSearchOf}
+use Rattle.seek_core.specs.Found.{IsVerdictBy, IsFoundOn, IsSearchOf}
 use Rattle.seek_core.specs.Answers.{QuandlesTriedInVain, BlocksTriedInVain}
+use Rattle.seek_core.specs.Pairs.{SeededPair}
 use Rattle.seek_core.specs.Sizes.{as_tried}
 use Rattle.seek_core.proofs.ByFormula.{formula_texts}
 use Rattle.seek_core.proofs.GivenTexts.{by_written}
@@ -54,13 +55,25 @@ candidates_are d e listed formulas start mid end none first same second =
 
 -- ---- what is found
 
+-- the diagrams of a problem, with seeds
+abbrev problem_pair : ProblemText → SeedPair → SeededPair
+problem_pair p seeds = record { first = grid_of p.first; second = grid_of p.second; seeds = seeds }
+
 -- a search on the diagrams and the quandles of a problem
-pub search_of : (d e d' e' : Diagram) (listed listed' : List NamedQuandle) (blocks : List Block) (s : SearchOutcome) → d ≡ d' → e ≡ e' → listed ≡ listed'
-    → IsSearchOn d e listed blocks s → IsSearchOn d' e' listed' blocks s
-search_of d e d' e' listed listed' blocks s first second same search =
-    subst (λ (g : Diagram). IsSearchOn g e' listed' blocks s) first
-    (subst (λ (g : Diagram). IsSearchOn d g listed' blocks s) second
-    (subst (λ (qs : List NamedQuandle). IsSearchOn d e qs blocks s) same search))
+pub search_of : (p : ProblemText) (blocks : List Block) (s : SearchOutcome) (d e : Diagram) (listed : List NamedQuandle) (seeds : SeedPair)
+    → d ≡ grid_of p.first → e ≡ grid_of p.second → listed ≡ p.quandles → s.quandles.items ≡ candidate_quandles d e listed → ArePlansOf d e seeds
+    → s.blocks ≡ count_by (fits_both seeds) blocks
+    → IsFoundOn (record { first = d; second = e; seeds = seeds }) s.quandles.items (as_tried blocks) s.said → IsSearchOf p blocks s
+search_of p blocks s d e listed seeds first second same candidates plans fitting found = record {
+  quandles = subst (λ (g : Diagram). s.quandles.items ≡ candidate_quandles (grid_of p.first) g p.quandles) second
+      (subst (λ (g : Diagram). s.quandles.items ≡ candidate_quandles g e p.quandles) first
+      (subst (λ (qs : List NamedQuandle). s.quandles.items ≡ candidate_quandles d e qs) same candidates));
+  seeds = seeds;
+  plans = subst (λ (g : Diagram). ArePlansOf (grid_of p.first) g seeds) second (subst (λ (g : Diagram). ArePlansOf g e seeds) first plans);
+  fitting = fitting;
+  found = subst (λ (g : Diagram). IsFoundOn (record { first = grid_of p.first; second = g; seeds = seeds }) s.quandles.items (as_tried blocks) s.said) second
+      (subst (λ (g : Diagram). IsFoundOn (record { first = g; second = e; seeds = seeds }) s.quandles.items (as_tried blocks) s.said) first found);
+}
 
 -- ---- what it is worth
 
@@ -82,8 +95,7 @@ worth_by d e qs None v all is equal = subst (IsWorth d e) (sym equal.verdict) (r
 -- of the diagrams of a problem
 finding_of : (p : ProblemText) (blocks : List Block) (s : SearchOutcome) (x : Said) → IsGrid (grid_of p.first) → IsGrid (grid_of p.second)
     → All HasQuandleText s.quandles.items → All HasBlockText blocks → (search : IsSearchOf p blocks s)
-    → IsFoundWhere (grid_of p.first) (grid_of p.second) (first_separating (grid_of p.first) (grid_of p.second) s.quandles.items)
-    (told_apart (grid_of p.first) (grid_of p.second) search.seeds (as_tried blocks)) (Some x) → IsFindingOf p x
+    → IsFoundOn (problem_pair p search.seeds) s.quandles.items (as_tried blocks) (Some x) → IsFindingOf p x
 finding_of p blocks s (said.Verdict v) one two all texts search found =
     let d = grid_of p.first in
     let e = grid_of p.second in
@@ -104,8 +116,7 @@ finding_if p blocks s one two all texts search = by s.said refl
     by : (o : Option Said) → s.said ≡ o → IfSome o (λ x. IsFindingOf p x)
     by None is = tt
     by (Some x) is = finding_of p blocks s x one two all texts search
-        (subst (λ (o : Option Said). IsFoundWhere (grid_of p.first) (grid_of p.second) (first_separating (grid_of p.first) (grid_of p.second) s.quandles.items)
-        (told_apart (grid_of p.first) (grid_of p.second) search.seeds (as_tried blocks)) o) is search.found)
+        (subst (λ (o : Option Said). IsFoundOn (problem_pair p search.seeds) s.quandles.items (as_tried blocks) o) is search.found)
 
 -- ---- where nothing is found
 
@@ -125,7 +136,7 @@ in_vain_of bytes p blocks s tried read wide same fitting none search =
     let d = grid_of p.first in
     let e = grid_of p.second in
     let neither : (first_separating d e s.quandles.items ≡ None) × (told_apart d e search.seeds (as_tried blocks) ≡ None) =
-    subst (λ (o : Option Said). IsFoundWhere d e (first_separating d e s.quandles.items) (told_apart d e search.seeds (as_tried blocks)) o) none search.found in
+    subst (λ (o : Option Said). IsFoundOn (problem_pair p search.seeds) s.quandles.items (as_tried blocks) o) none search.found in
     let untold = linking_none d e search.seeds (as_tried blocks) neither.1 in (
       record {
         problem = p;

@@ -1,4 +1,5 @@
--- What a search for a verdict on two diagrams comes to. Contracts cite IsEqualBy, IsVerdictOn, IsFoundOn and IsSearchOf, of which the others are parts.
+-- What a search for a verdict on two diagrams comes to: IsSearchOf of the whole search, IsFoundOn of its rounds by quandles, blocks and walks,
+-- IsVerdictOn of those without blocks, IsEqualBy of a walk. IsVerdictBy is what a verdict has to be in all rounds.
 use Rattle.std.specs.Prelude.{◌≡◌, true, List, Option, Some, None, count_by}
 use Rattle.grid_core.specs.Diagram.{Diagram}
 use Rattle.grid_moves.specs.declared.step.Move.{Move}
@@ -33,36 +34,23 @@ abbrev pub IsVerdictBy : Diagram → Diagram → Option NamedQuandle → Verdict
 IsVerdictBy d e (Some q) v = IsDifferentBy d e q v
 IsVerdictBy d e None v = IsEqualBy d e v
 
--- a verdict by the first quandle that separates the diagrams, or by moves; or none, only where no quandle separates them
-abbrev pub IsVerdictWhere : Diagram → Diagram → Option NamedQuandle → Option Verdict → Type 0
-IsVerdictWhere d e quandle (Some v) = IsVerdictBy d e quandle v
-IsVerdictWhere d e quandle None = quandle ≡ None
-
--- what is found is a verdict by the first quandle that separates the diagrams or by moves, or evidence by numbers; nothing is found only where no
--- quandle separates the diagrams, and there is no evidence by numbers
-abbrev pub IsFoundWhere : Diagram → Diagram → Option NamedQuandle → Option Evidence → Option Said → Type 0
-IsFoundWhere d e quandle evidence (Some (said.Verdict v)) = IsVerdictBy d e quandle v
-IsFoundWhere d e quandle evidence (Some (said.Evidence x)) = evidence ≡ Some x
-IsFoundWhere d e quandle evidence None = (quandle ≡ None) × (evidence ≡ None)
-
--- a verdict on a pair of diagrams by the first of these quandles that separates them, or by moves; or none, where none of them separates them
+-- a verdict on a pair of diagrams, by the first of these quandles that separates them, or by moves; or none, only where none of them separates them
 abbrev pub IsVerdictOn : SeededPair → List NamedQuandle → Option Verdict → Type 0
-IsVerdictOn p quandles o = IsVerdictWhere p.first p.second (first_separating p.first p.second quandles) o
+IsVerdictOn p quandles (Some v) = IsVerdictBy p.first p.second (first_separating p.first p.second quandles) v
+IsVerdictOn p quandles None = first_separating p.first p.second quandles ≡ None
 
--- what is found of a pair of diagrams by these quandles, these blocks in this order, and moves
+-- what is found of a pair of diagrams is such a verdict, or evidence by numbers: by linking numbers or, where these agree, by the first of these
+-- blocks that tells. Nothing is found only where no quandle separates them, and there is no evidence by numbers
 abbrev pub IsFoundOn : SeededPair → List NamedQuandle → List Block → Option Said → Type 0
-IsFoundOn p quandles blocks o =
-    IsFoundWhere p.first p.second (first_separating p.first p.second quandles) (told_apart p.first p.second p.seeds blocks) o
+IsFoundOn p quandles blocks (Some (said.Verdict v)) = IsVerdictBy p.first p.second (first_separating p.first p.second quandles) v
+IsFoundOn p quandles blocks (Some (said.Evidence x)) = told_apart p.first p.second p.seeds blocks ≡ Some x
+IsFoundOn p quandles blocks None = (first_separating p.first p.second quandles ≡ None) × (told_apart p.first p.second p.seeds blocks ≡ None)
 
--- what a search on two diagrams and listed quandles tried and found, where so many of the blocks fit plans of both diagrams. Where linking
--- numbers don't differ, evidence is by the first block that tells, in the order of `as_tried`
-pub record IsSearchOn (d e : Diagram) (listed : List NamedQuandle) (blocks : List Block) (s : SearchOutcome) : Type 0 where
-  pub quandles : s.quandles.items ≡ candidate_quandles d e listed
+-- what a search on the diagrams and the quandles of a problem tried and found, where so many of the blocks fit plans of both diagrams, and blocks
+-- are tried in the order of `as_tried`
+pub record IsSearchOf (p : ProblemText) (blocks : List Block) (s : SearchOutcome) : Type 0 where
+  pub quandles : s.quandles.items ≡ candidate_quandles (grid_of p.first) (grid_of p.second) p.quandles
   pub seeds : SeedPair
-  pub plans : ArePlansOf d e seeds
+  pub plans : ArePlansOf (grid_of p.first) (grid_of p.second) seeds
   pub fitting : s.blocks ≡ count_by (fits_both seeds) blocks
-  pub found : IsFoundWhere d e (first_separating d e s.quandles.items) (told_apart d e seeds (as_tried blocks)) s.said
-
--- what a search on the diagrams and the quandles of a problem tried and found
-abbrev pub IsSearchOf : ProblemText → List Block → SearchOutcome → Type 0
-IsSearchOf p blocks s = IsSearchOn (grid_of p.first) (grid_of p.second) p.quandles blocks s
+  pub found : IsFoundOn (record { first = grid_of p.first; second = grid_of p.second; seeds = seeds }) s.quandles.items (as_tried blocks) s.said

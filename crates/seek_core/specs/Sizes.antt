@@ -1,6 +1,5 @@
 -- The order in which blocks are tried: those of larger quandles last.
-use Rattle.std.specs.Prelude.{Bool, true, false, List, ◌++◌, nat_lt}
-use Rattle.std.specs.Bool.{beq}
+use Rattle.std.specs.Prelude.{Bool, List, ◌++◌, nat_lt, not}
 use Rattle.std.specs.List.{filter}
 use Rattle.quandle_core.specs.declared.quandle.TheConstants.{MAX_ORDER}
 use Rattle.evidence_core.specs.declared.blocks.Block.{Block}
@@ -9,10 +8,18 @@ use Rattle.evidence_core.specs.declared.blocks.Block.{Block}
 abbrev pub is_larger : Block → Bool
 is_larger b = nat_lt MAX_ORDER b.listed.table.order
 
--- the larger ones of these blocks, or the others
-abbrev pub blocks_of_size : Bool → List Block → List Block
-blocks_of_size larger blocks = filter (λ (b : Block). beq (is_larger b) larger) blocks
+-- its quandle has at most MAX_ORDER colours
+abbrev pub is_smaller : Block → Bool
+is_smaller b = not (is_larger b)
 
--- the larger ones behind the others
+-- the smaller blocks, in their order
+abbrev pub smaller_blocks : List Block → List Block
+smaller_blocks blocks = filter is_smaller blocks
+
+-- the larger blocks, in their order
+abbrev pub larger_blocks : List Block → List Block
+larger_blocks blocks = filter is_larger blocks
+
+-- the larger ones behind the smaller ones
 abbrev pub as_tried : List Block → List Block
-as_tried blocks = blocks_of_size false blocks ++ blocks_of_size true blocks
+as_tried blocks = smaller_blocks blocks ++ larger_blocks blocks

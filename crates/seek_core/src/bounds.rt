@@ -7,7 +7,7 @@ use std::alloc::Global;
 pub const SHORT_STEPS: u64 = 32_768;
 
 /// How the search for moves is bounded, and how many workers seek. That the same bounds have the same answer is not proved.
-#[derive(Clone, Copy, Debug, PartialEq, Eq)]
+#[derive(Clone, Copy, PartialEq, Eq)]
 pub struct Bounds {
     /// The seed of the first worker, and what bounds the walks of each.
     pub walks: meeting_walks::Bounds,

@@ -1,10 +1,10 @@
 //! The search for what can be said of two diagrams: in rounds, by cost and yield.
-ghost use Rattle.std.specs.Prelude.{false, IfOk, IfSome};
+ghost use Rattle.std.specs.Prelude.{IfOk, IfSome};
 ghost use Rattle.std.specs.List.{All};
 ghost use Rattle.knot_text.specs.Printed.{HasQuandleText};
 ghost use Rattle.certificate_check.specs.Decision.{IsFindingOf};
 ghost use Rattle.seek_core.specs.Found.{IsVerdictOn, IsFoundOn, IsSearchOf};
-ghost use Rattle.seek_core.specs.Sizes.{blocks_of_size, as_tried};
+ghost use Rattle.seek_core.specs.Sizes.{smaller_blocks, as_tried};
 
 use crate::blocks::Blocks;
 use crate::bounds::{Bounds, Resources, SHORT_STEPS};
@@ -85,7 +85,7 @@ fn said_of<R: Threads + Sync, W: Watch>(
     if said.is_some() {
         return Ok(said);
     }
-    match pair.told_by_blocks(resources.alloc, blocks, true)? {
+    match pair.told_by_larger(resources.alloc, blocks)? {
         Some(evidence) => Ok(Some(Said::Evidence(evidence))),
         None => Ok(None),
     }
@@ -100,7 +100,7 @@ fn said_before_larger<R: Threads + Sync, W: Watch>(
     watch: &mut W,
 ) -> Result<Option<Said>, OutOfMemory>
     requires { All HasQuandleText quandles.now }
-    ensures { IfOk result (λ o. IsFoundOn pair.now quandles.now (blocks_of_size false blocks.now) o) }
+    ensures { IfOk result (λ o. IsFoundOn pair.now quandles.now (smaller_blocks blocks.now) o) }
 {
     let (front, others) = quandles.split_at(FIRST_QUANDLES.min(quandles.len()));
     let told = told_first(resources.alloc, pair, front, blocks)?;
@@ -113,14 +113,14 @@ fn said_before_larger<R: Threads + Sync, W: Watch>(
     }
 }
 
-/// What distinguishes two diagrams in the first three rounds: linking numbers, the first quandles, and the blocks that are not larger.
+/// What distinguishes two diagrams in the first three rounds: linking numbers, the first quandles, and the smaller blocks.
 fn told_first(
     alloc: Global,
     pair: &Pair,
     quandles: &[Listed],
     blocks: &[Block],
 ) -> Result<Option<Said>, OutOfMemory>
-    ensures { IfOk result (λ o. IsFoundOn pair.now quandles.now (blocks_of_size false blocks.now) o) }
+    ensures { IfOk result (λ o. IsFoundOn pair.now quandles.now (smaller_blocks blocks.now) o) }
 {
     if let Some(evidence) = pair.told_by_linking(alloc)? {
         return Ok(Some(Said::Evidence(evidence)));
@@ -128,7 +128,7 @@ fn told_first(
     if let Some(verdict) = pair.separation(alloc, quandles)? {
         return Ok(Some(Said::Verdict(verdict)));
     }
-    match pair.told_by_blocks(alloc, blocks, false)? {
+    match pair.told_by_smaller(alloc, blocks)? {
         Some(evidence) => Ok(Some(Said::Evidence(evidence))),
         None => Ok(None),
     }

@@ -22,4 +22,4 @@ pub use bounds::{Bounds, Resources, SHORT_STEPS};
 pub use ending::{Ending, run};
 pub use finding::{FIRST_QUANDLES, SearchOutcome, find};
 pub use formulas::formula_quandles;
-pub use parts::{join_parts, place};
+pub use parts::{join_parts, part_with_line};

@@ -3,11 +3,11 @@ ghost use Rattle.std.specs.Prelude.{◌≡◌, [], ◌∷◌, IfOk, IfSome};
 ghost use Rattle.number_search.specs.Told.{ArePlansOf, told_by_linking, told_by_blocks};
 ghost use Rattle.pair_verdict.specs.Separates.{first_separating, IsSeparation};
 ghost use Rattle.seek_core.specs.Found.{IsEqualBy};
-ghost use Rattle.seek_core.specs.Sizes.{blocks_of_size};
+ghost use Rattle.seek_core.specs.Sizes.{smaller_blocks, larger_blocks};
 
 use crate::bounds::{Bounds, Resources};
 use crate::separating::first_separation;
-use crate::sizes::is_of_size;
+use crate::sizes::{is_larger, is_smaller};
 use grid_canon::tidy;
 use grid_core::Grid;
 use meeting_walks::{Watch, find_joining_by};
@@ -59,17 +59,16 @@ impl<'a> Pair<'a> {
         tell_apart_by_linking(alloc, self.first, self.second)
     }
 
-    /// The evidence by the first that distinguishes the diagrams, of the larger ones of the blocks, or of the others. None where none of these does.
-    pub(crate) fn told_by_blocks(
+    /// The evidence by the first of the smaller blocks that distinguishes the diagrams, or None where none of them does.
+    pub(crate) fn told_by_smaller(
         &self,
         alloc: Global,
         blocks: &[Block],
-        larger: bool,
     ) -> Result<Option<Evidence>, OutOfMemory>
-        ensures { IfOk result (λ o. o ≡ told_by_blocks self.now.first self.now.second self.now.seeds (blocks_of_size larger blocks.now)) }
+        ensures { IfOk result (λ o. o ≡ told_by_blocks self.now.first self.now.second self.now.seeds (smaller_blocks blocks.now)) }
     {
         for block in blocks {
-            let evidence = self.told_by_one(alloc, block, larger)?;
+            let evidence = self.told_if_smaller(alloc, block)?;
             if evidence.is_some() {
                 return Ok(evidence);
             }
@@ -77,20 +76,49 @@ impl<'a> Pair<'a> {
         Ok(None)
     }
 
-    /// The evidence by one block, if it is a larger one, or isn't, as asked, and distinguishes the diagrams; else None.
-    fn told_by_one(
-        &self,
-        alloc: Global,
-        block: &Block,
-        larger: bool,
-    ) -> Result<Option<Evidence>, OutOfMemory>
-        ensures { IfOk result (λ o. o ≡ told_by_blocks self.now.first self.now.second self.now.seeds (blocks_of_size larger (block.now ∷ []))) }
+    /// The evidence by one block, if it is a smaller one and distinguishes the diagrams; else None.
+    fn told_if_smaller(&self, alloc: Global, block: &Block) -> Result<Option<Evidence>, OutOfMemory>
+        ensures { IfOk result (λ o. o ≡ told_by_blocks self.now.first self.now.second self.now.seeds (smaller_blocks (block.now ∷ []))) }
     {
-        if is_of_size(block, larger) {
-            let one = slice::from_ref(block);
-            return tell_apart_by_blocks(alloc, self.first, self.second, self.seeds, one);
+        if is_smaller(block) {
+            return self.told_by_one(alloc, block);
         }
         Ok(None)
+    }
+
+    /// The evidence by the first of the larger blocks that distinguishes the diagrams, or None where none of them does.
+    pub(crate) fn told_by_larger(
+        &self,
+        alloc: Global,
+        blocks: &[Block],
+    ) -> Result<Option<Evidence>, OutOfMemory>
+        ensures { IfOk result (λ o. o ≡ told_by_blocks self.now.first self.now.second self.now.seeds (larger_blocks blocks.now)) }
+    {
+        for block in blocks {
+            let evidence = self.told_if_larger(alloc, block)?;
+            if evidence.is_some() {
+                return Ok(evidence);
+            }
+        }
+        Ok(None)
+    }
+
+    /// The evidence by one block, if it is a larger one and distinguishes the diagrams; else None.
+    fn told_if_larger(&self, alloc: Global, block: &Block) -> Result<Option<Evidence>, OutOfMemory>
+        ensures { IfOk result (λ o. o ≡ told_by_blocks self.now.first self.now.second self.now.seeds (larger_blocks (block.now ∷ []))) }
+    {
+        if is_larger(block) {
+            return self.told_by_one(alloc, block);
+        }
+        Ok(None)
+    }
+
+    /// The evidence by one block, if it distinguishes the diagrams; else None.
+    fn told_by_one(&self, alloc: Global, block: &Block) -> Result<Option<Evidence>, OutOfMemory>
+        ensures { IfOk result (λ o. o ≡ told_by_blocks self.now.first self.now.second self.now.seeds (block.now ∷ [])) }
+    {
+        let one = slice::from_ref(block);
+        tell_apart_by_blocks(alloc, self.first, self.second, self.seeds, one)
     }
 
     /// The verdict `different` by the first of the quandles that separates the diagrams, or None where none does.

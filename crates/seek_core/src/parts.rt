@@ -21,7 +21,7 @@ pub fn join_parts(alloc: Global, parts: &[Items<u8>]) -> Result<Vec<u8>, OutOfMe
 
 /// Where a line of the parts, one after the other, is: which part it is in, counted from 0, and its number there; lines are counted from 1.
 /// A line after the last one is after those of the last part. None comes if there are no parts. Takes no memory.
-pub fn place(parts: &[Items<u8>], line: usize) -> Option<(usize, usize)>
+pub fn part_with_line(parts: &[Items<u8>], line: usize) -> Option<(usize, usize)>
     ensures some { IfSome result (λ at. StandsIn parts.now line at.0 at.1) }
     ensures none { IfNone result (parts.now ≡ []) }
 {

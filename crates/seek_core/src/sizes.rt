@@ -1,20 +1,19 @@
-//! Whether the quandle of a block is a larger one.
+//! The two sizes of blocks, by the number of colours of their quandles.
 ghost use Rattle.std.specs.Prelude.{◌≡◌};
-ghost use Rattle.std.specs.Bool.{beq};
-ghost use Rattle.seek_core.specs.Sizes.{is_larger};
+ghost use Rattle.seek_core.specs.Sizes.{is_larger, is_smaller};
 
 use number_text::Block;
 use quandle_core::MAX_ORDER;
 
-/// Whether a block is a larger one, or whether it is not.
-pub(crate) fn is_of_size(block: &Block, larger: bool) -> bool
-    ensures { result ≡ beq (is_larger block.now) larger }
+/// Whether the quandle of a block has at most `MAX_ORDER` colours.
+pub(crate) fn is_smaller(block: &Block) -> bool
+    ensures { result ≡ is_smaller block.now }
 {
-    is_larger(block) == larger
+    !is_larger(block)
 }
 
 /// Whether the quandle of a block has more colours than `MAX_ORDER`.
-fn is_larger(block: &Block) -> bool
+pub(crate) fn is_larger(block: &Block) -> bool
     ensures { result ≡ is_larger block.now }
 {
     block.listed.operations().order() as usize > MAX_ORDER

@@ -1,6 +1,6 @@
 use Rattle.std.proofs.Common.{◌≡◌, ◌+◌, ◌<◌, ◌⊎◌, length}
 use Rattle.seek_core.specs.Parts.{lines_before}
-use Rattle.seek_core.proofs.parts.place.Given as goal
+use Rattle.seek_core.proofs.parts.part_with_line.Given as goal
 
 abbrev pub invariant-loop-part : goal.invariant-loop-part
 invariant-loop-part l = record {
