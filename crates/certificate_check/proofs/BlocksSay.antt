@@ -25,12 +25,13 @@ use Rattle.evidence_core.specs.declared.blocks.LargeWeighing.TheVariants.{Strand
 use Rattle.evidence_core.specs.declared.blocks.Block.{Block}
 use Rattle.evidence_core.specs.declared.evidence.Evidence.{Evidence}
 use Rattle.evidence_core.specs.declared.evidence.Evidence.TheVariants.{Numbers, Linking}
-use Rattle.number_text.specs.Blocks.{block_item, surplus_block, blocks}
+use Rattle.number_text.specs.Blocks.{block_item, surplus_block, listed_blocks}
 use Rattle.number_text.specs.BlockCocycles.{cocycle_or_none}
-use Rattle.number_text.specs.Evidence.{count_of, seeded_numbers_item, numbers_evidence, linked_item, linking_evidence, evidence_at, head_at, third_item}
+use Rattle.number_text.specs.NumberLines.{seeded_numbers_item, linked_item}
+use Rattle.number_text.specs.EvidenceItems.{count_of, numbers_evidence, linking_evidence, evidence_at, head_at, evidence_item}
 use Rattle.number_text.specs.declared.said.Said.{Said}
 use Rattle.number_text.specs.declared.said.Said.TheVariants as said
-use Rattle.number_text.specs.Said.{has_third, third_in, third_of, with_verdict, said_of}
+use Rattle.number_text.specs.Said.{evidence_follows, evidence_in, evidence_of, with_verdict, said_of}
 use Rattle.certificates.specs.Printed.{HasPerhapsText, HasBlockText}
 
 perhaps_says : (quandle : Table) (text : Text) → IsQuandle quandle → Says (cocycle_or_none quandle text) (λ x. HasPerhapsText quandle x.0)
@@ -64,8 +65,8 @@ surplus_says text = says_bind (λ x. Unit {0}) (anything (next_line text)) (λ l
     says_bind (λ x. Unit {0}) (anything (word (codes "quandle") line.0)) (λ rest named.
     says_bind (λ x. Unit {0}) (anything (written_at rest)) (λ name is. says_err)))
 
-blocks_say : (most : ℕ) → most ≤ MAX_LARGE_ORDER → (room : ℕ) (text : Text) → Says (blocks most room text) (λ x. AllByRecursion HasBlockText x.0)
-unfolding blocks
+blocks_say : (most : ℕ) → most ≤ MAX_LARGE_ORDER → (room : ℕ) (text : Text) → Says (listed_blocks most room text) (λ x. AllByRecursion HasBlockText x.0)
+unfolding listed_blocks
 blocks_say most few zero text = says_if (begins (codes "quandle") text) (λ more. surplus_says text) (λ none. says_ok ([], text) tt)
 blocks_say most few (suc room) text = says_if (begins (codes "quandle") text) (λ more.
     says_bind (λ x. HasBlockText x.0) (block_says most text few) (λ first has.
@@ -75,7 +76,7 @@ blocks_say most few (suc room) text = says_if (begins (codes "quandle") text) (�
 pub block_text : (most : ℕ) (text rest : Text) (b : Block) → most ≤ MAX_LARGE_ORDER → block_item most text ≡ Ok (b, rest) → HasBlockText b
 block_text most text rest b few read = (block_says most text few).of (b, rest) read
 
-pub blocks_text : (most room : ℕ) (text rest : Text) (bs : List Block) → most ≤ MAX_LARGE_ORDER → blocks most room text ≡ Ok (bs, rest)
+pub blocks_text : (most room : ℕ) (text rest : Text) (bs : List Block) → most ≤ MAX_LARGE_ORDER → listed_blocks most room text ≡ Ok (bs, rest)
     → AllByRecursion HasBlockText bs
 blocks_text most room text rest bs few read = (blocks_say most few room text).of (bs, rest) read
 
@@ -107,8 +108,8 @@ evidence_says line text = says_bind (λ x. Unit {0}) (anything (word (codes "dif
     says_if (bytes_eq kind.0 (codes "numbers")) (λ numbers. numbers_say kind.1 text) (λ others.
     says_if (bytes_eq kind.0 (codes "linking")) (λ linking. linking_says kind.1 text) (λ none. says_err))))
 
-third_says : (text : Text) → Says (third_item text) (λ x. HasBlock x.0)
-unfolding third_item
+third_says : (text : Text) → Says (evidence_item text) (λ x. HasBlock x.0)
+unfolding evidence_item
 third_says text = says_bind (λ x. Unit {0}) (anything (next_line text)) (λ head there.
     says_bind (λ x. Unit {0}) (anything (head_at head.0)) (λ version is.
     says_bind (λ x. Unit {0}) (anything (next_line head.1)) (λ line behind. evidence_says line.0 line.1)))
@@ -119,16 +120,16 @@ abbrev HasBlockSaid : Said → Type 0
 HasBlockSaid (said.Verdict verdict) = Unit {0}
 HasBlockSaid (said.Evidence evidence) = HasBlock evidence
 
-third_in_says : (text : Text) → Says (third_in text) (λ x. HasBlockSaid x.1)
-unfolding third_in
+third_in_says : (text : Text) → Says (evidence_in text) (λ x. HasBlockSaid x.1)
+unfolding evidence_in
 third_in_says text = says_bind (λ x. Unit {0}) (anything (problem_item text)) (λ problem is.
     says_bind (λ x. HasBlock x.0) (third_says problem.1) (λ evidence has.
     says_bind (λ x. Unit {0}) (anything (text_end evidence.1)) (λ end ended. says_ok (problem.0, said.Evidence evidence.0) has)))
 
 pub said_block : (bytes : List ℕ) (p : ProblemText) (evidence : Evidence) → said_of bytes ≡ Ok (p, said.Evidence evidence) → HasBlock evidence
-said_block bytes p evidence read = by (has_third (problem_item (text_of bytes))) read
+said_block bytes p evidence read = by (evidence_follows (problem_item (text_of bytes))) read
   where
-    by : (t : Bool) → cond t (third_of bytes) (with_verdict (check_of bytes)) ≡ Ok (p, said.Evidence evidence) → HasBlock evidence
+    by : (t : Bool) → cond t (evidence_of bytes) (with_verdict (check_of bytes)) ≡ Ok (p, said.Evidence evidence) → HasBlock evidence
     by true is = (third_in_says (text_of bytes)).of (p, said.Evidence evidence) is
     by false is =
         let b = bind_ok (check_of bytes) (λ check. Ok (check.0, said.Verdict check.1)) (p, said.Evidence evidence) is in

@@ -32,7 +32,7 @@ use Rattle.evidence_core.specs.declared.evidence.Counted.{Counted}
 use Rattle.evidence_core.specs.declared.evidence.Linked.{Linked}
 use Rattle.evidence_core.specs.declared.evidence.Evidence.{Evidence}
 use Rattle.evidence_core.specs.declared.evidence.Evidence.TheVariants.{Numbers, Linking}
-use Rattle.number_text.specs.Evidence.{count_of}
+use Rattle.number_text.specs.EvidenceItems.{count_of}
 use Rattle.certificates.specs.Printed.{HasPerhapsText, HasBlockText, HasCountedText, HasLinkedText, HasEvidenceText}
 use Rattle.number_check.specs.EvidenceHolds.{table_by_block, AreNumbersOf, EvidenceHolds}
 use Rattle.evidence_core.specs.Links.{AreLinkingOf}

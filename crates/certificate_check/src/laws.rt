@@ -8,7 +8,7 @@ ghost use Rattle.verdict_core.specs.declared.problem.ProblemText.{ProblemText};
 ghost use Rattle.verdict_text.specs.Problems.{problem_of};
 ghost use Rattle.evidence_core.specs.declared.blocks.Block.{Block};
 ghost use Rattle.evidence_core.specs.declared.evidence.Evidence.{Evidence};
-ghost use Rattle.number_text.specs.Blocks.{block_item, blocks};
+ghost use Rattle.number_text.specs.Blocks.{block_item, listed_blocks};
 ghost use Rattle.number_text.specs.declared.said.Said.{Said};
 ghost use Rattle.certificates.specs.Printed.{HasBlockText, HasEvidenceText};
 ghost use Rattle.certificates.specs.Said.{said_text};
@@ -39,7 +39,7 @@ pub fn evidence_that_holds_has_a_text()
 /// A block that was read has a text, whatever the bound of its order up to `MAX_LARGE_ORDER`, and so has each of a list.
 pub fn a_block_that_was_read_has_a_text()
     ensures one { (most : ℕ) (text rest : Text) (block : Block) → most ≤ MAX_LARGE_ORDER → block_item most text ≡ Ok (block, rest) → HasBlockText block }
-    ensures each { (most room : ℕ) (text rest : Text) (list : List Block) → most ≤ MAX_LARGE_ORDER → blocks most room text ≡ Ok (list, rest)
+    ensures each { (most room : ℕ) (text rest : Text) (list : List Block) → most ≤ MAX_LARGE_ORDER → listed_blocks most room text ≡ Ok (list, rest)
         → AllByRecursion HasBlockText list }
 {}
 

@@ -14,12 +14,12 @@ use Rattle.verdict_text.specs.Verdicts.{version_at, tidy_item, versioned_item, v
 use Rattle.verdict_text.specs.Problems.{problem_item, check_in, check_of}
 use Rattle.knot_text.proofs.Steady.{bind_ok, ok_is}
 use Rattle.knot_text.proofs.Says.{Says, says_ok, says_bind}
-use Rattle.number_text.specs.Evidence.{third_item}
+use Rattle.number_text.specs.EvidenceItems.{evidence_item}
 use Rattle.number_text.specs.declared.said.Said.{Said}
 use Rattle.number_text.specs.declared.said.Said.TheVariants as said
-use Rattle.number_text.specs.Said.{is_third_line, starts_third, has_third, third_in, third_of, with_verdict, said_of}
+use Rattle.number_text.specs.Said.{is_evidence_head, starts_evidence, evidence_follows, evidence_in, evidence_of, with_verdict, said_of}
 
-pub as_before : (bytes : List ℕ) → has_third (problem_item (text_of bytes)) ≡ false → said_of bytes ≡ with_verdict (check_of bytes)
+pub as_before : (bytes : List ℕ) → evidence_follows (problem_item (text_of bytes)) ≡ false → said_of bytes ≡ with_verdict (check_of bytes)
 as_before bytes none = rw none refl
 
 -- the line `certificate 3` is no head line of the second version
@@ -33,7 +33,7 @@ verdict_fails : (one two n ending : ℕ) (lines : List NumberedLine)
 unfolding verdict_item versioned_item tidy_item next_line
 verdict_fails one two n ending lines = rw (not_second n) refl
 
-third_tokens : (tokens : List (List ℕ)) → is_third_line tokens ≡ true → tokens ≡ codes "certificate" ∷ codes "3" ∷ []
+third_tokens : (tokens : List (List ℕ)) → is_evidence_head tokens ≡ true → tokens ≡ codes "certificate" ∷ codes "3" ∷ []
 third_tokens [] is = absurd cc
 third_tokens (word ∷ []) is = absurd cc
 third_tokens (word ∷ version ∷ []) is =
@@ -43,10 +43,10 @@ third_tokens (word ∷ version ∷ []) is =
     rw (first, second) refl
 third_tokens (word ∷ version ∷ token ∷ tokens) is = absurd cc
 
-third_fails : (one two : ℕ) (text : Text) → starts_third text.lines ≡ true → (x : Verdict × Text) → verdict_item one two text ≡ Ok x → ⊥
+third_fails : (one two : ℕ) (text : Text) → starts_evidence text.lines ≡ true → (x : Verdict × Text) → verdict_item one two text ≡ Ok x → ⊥
 third_fails one two text is x read = by text.lines refl is
   where
-    by : (lines : List NumberedLine) → text.lines ≡ lines → starts_third lines ≡ true → ⊥
+    by : (lines : List NumberedLine) → text.lines ≡ lines → starts_evidence lines ≡ true → ⊥
     by [] lines_are is = absurd cc
     by (line ∷ lines) lines_are is =
         let tokens = third_tokens line.tokens is in
@@ -60,19 +60,19 @@ third_fails one two text is x read = by text.lines refl is
 none_third : (r : Result (ProblemText × Text) TextFault) (p : ProblemText × Verdict)
     → (r >>= λ problem. verdict_item (column_count problem.0.first) (column_count problem.0.second) problem.1 >>= λ verdict. text_end verdict.1
     >>= λ end. Ok (problem.0, verdict.0)) ≡ Ok p
-    → has_third r ≡ false
+    → evidence_follows r ≡ false
 none_third (Err e) p read = refl
 none_third (Ok problem) p read =
-    by (starts_third problem.1.lines) refl (verdict_item (column_count problem.0.first) (column_count problem.0.second) problem.1) refl read
+    by (starts_evidence problem.1.lines) refl (verdict_item (column_count problem.0.first) (column_count problem.0.second) problem.1) refl read
   where
-    by : (t : Bool) → starts_third problem.1.lines ≡ t → (v : Result (Verdict × Text) TextFault)
+    by : (t : Bool) → starts_evidence problem.1.lines ≡ t → (v : Result (Verdict × Text) TextFault)
         → verdict_item (column_count problem.0.first) (column_count problem.0.second) problem.1 ≡ v
-        → (v >>= λ verdict. text_end verdict.1 >>= λ end. Ok (problem.0, verdict.0)) ≡ Ok p → starts_third problem.1.lines ≡ false
+        → (v >>= λ verdict. text_end verdict.1 >>= λ end. Ok (problem.0, verdict.0)) ≡ Ok p → starts_evidence problem.1.lines ≡ false
     by false is v v_is read = is
     by true is (Ok x) v_is read = absurd (third_fails (column_count problem.0.first) (column_count problem.0.second) problem.1 is x v_is)
     by true is (Err e) v_is read = absurd cc
 
-check_has_none : (text : Text) (p : ProblemText × Verdict) → check_in text ≡ Ok p → has_third (problem_item text) ≡ false
+check_has_none : (text : Text) (p : ProblemText × Verdict) → check_in text ≡ Ok p → evidence_follows (problem_item text) ≡ false
 unfolding check_in
 check_has_none text p read = none_third (problem_item text) p read
 
@@ -91,10 +91,10 @@ IsNoVerdict (said.Evidence evidence) = Unit {0}
 pub anything : {A : Type 0} (r : Result A TextFault) → Says r (λ x. Unit {0})
 anything r = record { of = λ x is. tt }
 
-third_says : (text : Text) → Says (third_in text) (λ x. IsNoVerdict x.1)
-unfolding third_in
+third_says : (text : Text) → Says (evidence_in text) (λ x. IsNoVerdict x.1)
+unfolding evidence_in
 third_says text = says_bind (λ x. Unit {0}) (anything (problem_item text)) (λ problem is.
-    says_bind (λ x. Unit {0}) (anything (third_item problem.1)) (λ evidence has.
+    says_bind (λ x. Unit {0}) (anything (evidence_item problem.1)) (λ evidence has.
     says_bind (λ x. Unit {0}) (anything (text_end evidence.1)) (λ end ended. says_ok (problem.0, said.Evidence evidence.0) tt)))
 
 same_said : (a b : ProblemText) (v w : Verdict) → ◌≡◌ {A = ProblemText × Said} (a, said.Verdict v) (b, said.Verdict w)
@@ -107,9 +107,9 @@ same_said a b v w is =
 
 pub was_read_so : (bytes : List ℕ) (problem : ProblemText) (verdict : Verdict) → said_of bytes ≡ Ok (problem, said.Verdict verdict)
     → check_of bytes ≡ Ok (problem, verdict)
-was_read_so bytes problem verdict read = by (has_third (problem_item (text_of bytes))) read
+was_read_so bytes problem verdict read = by (evidence_follows (problem_item (text_of bytes))) read
   where
-    by : (t : Bool) → cond t (third_of bytes) (with_verdict (check_of bytes)) ≡ Ok (problem, said.Verdict verdict) → check_of bytes ≡ Ok (problem, verdict)
+    by : (t : Bool) → cond t (evidence_of bytes) (with_verdict (check_of bytes)) ≡ Ok (problem, said.Verdict verdict) → check_of bytes ≡ Ok (problem, verdict)
     by true is = absurd ((third_says (text_of bytes)).of (problem, said.Verdict verdict) is)
     by false is =
         let b = bind_ok (check_of bytes) (λ check. Ok (check.0, said.Verdict check.1)) (problem, said.Verdict verdict) is in

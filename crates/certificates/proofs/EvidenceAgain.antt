@@ -13,8 +13,7 @@ use Rattle.text_lines.specs.Lines.{Text, begins}
 use Rattle.text_lines.specs.Spelled.{numbered}
 use Rattle.text_items.specs.declared.reading.TheConstants.{MAX_NUMBER}
 use Rattle.text_items.specs.Reading.{next_line, next_token, line_end, each_token}
-use Rattle.text_items.specs.NumberLines.{numbers_behind}
-use Rattle.text_items.specs.Kept.{low}
+use Rattle.text_items.specs.Numbers.{numbers_behind, low}
 use Rattle.text_items.specs.Braids.{letter_of, is_long_letter}
 use Rattle.knot_text.specs.Printed.{letter_token, name_tokens, table_lines}
 use Rattle.knot_text.proofs.StepsAgain.{line_of, lines_before, IsShort, word_again, count_again, values_again, none_long}
@@ -36,8 +35,8 @@ use Rattle.evidence_core.specs.declared.evidence.Evidence.{Evidence}
 use Rattle.evidence_core.specs.declared.evidence.Evidence.TheVariants.{Numbers, Linking}
 use Rattle.number_text.specs.declared.evidence_items.TheConstants.{THIRD_VERSION}
 use Rattle.number_text.specs.BlockCocycles.{cocycle_or_none}
-use Rattle.number_text.specs.Evidence.{seeds_at, numbers_line_at, seeded_numbers_item, count_of, numbers_evidence, components_at, letters_at, linked_item}
-use Rattle.number_text.specs.Evidence.{linking_evidence, evidence_at, head_at, third_item}
+use Rattle.number_text.specs.NumberLines.{seeds_at, numbers_line_at, seeded_numbers_item, components_at, linking_numbers_at, linked_item}
+use Rattle.number_text.specs.EvidenceItems.{count_of, numbers_evidence, linking_evidence, evidence_at, head_at, evidence_item}
 use Rattle.certificates.specs.Printed.{perhaps_cocycle, counted_lines, linked_lines, third_lines, HasPerhapsText, HasCountedText, HasLinkedText}
 use Rattle.certificates.specs.Printed.{HasEvidenceText}
 
@@ -148,8 +147,8 @@ no_long_letter (a ∷ ls) few =
     or_from (is_long_letter a) (list_any is_long_letter ls) (le-ltb MAX_NUMBER (unsigned_abs a) few.0) (no_long_letter ls few.1)
 
 letters_line_again : (n : ℕ) (ls : List ℤ) → AllByRecursion (λ (a : ℤ). unsigned_abs a ≤ MAX_NUMBER) ls
-    → letters_at (line_of n (codes "numbers" ∷ map letter_token ls)) ≡ Ok ls
-unfolding letters_at
+    → linking_numbers_at (line_of n (codes "numbers" ∷ map letter_token ls)) ≡ Ok ls
+unfolding linking_numbers_at
 letters_line_again n ls few = rw (word_again (codes "numbers") n (map letter_token ls), letters_again n ls few, no_long_letter ls few) refl
 
 components_again : (n k : ℕ) → k ≤ MAX_NUMBER → components_at (line_of n (codes "components" ∷ decimal k ∷ [])) ≡ Ok k
@@ -178,8 +177,8 @@ unfolding head_at
 head_again n = rw (word_again (codes "certificate") n (decimal THIRD_VERSION ∷ []), count_again THIRD_VERSION n (omega arith)) refl
 
 pub third_again : (n : ℕ) (evidence : Evidence) (text : Text) → HasEvidenceText evidence
-    → third_item (lines_before (numbered n (third_lines evidence)) text) ≡ Ok (evidence, text)
-unfolding third_item evidence_at next_line next_token
+    → evidence_item (lines_before (numbered n (third_lines evidence)) text) ≡ Ok (evidence, text)
+unfolding evidence_item evidence_at next_line next_token
 third_again n (Numbers b one two) text has =
     rw (head_again (n + 1), word_again (codes "different") (n + 1 + 1) (codes "numbers" ∷ name_tokens b.listed.name b.listed.table.order))
     (block_again (n + 1 + 1) b one two text has)

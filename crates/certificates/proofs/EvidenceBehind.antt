@@ -18,18 +18,18 @@ use Rattle.knot_text.proofs.StepsAgain.{lines_before}
 use Rattle.knot_text.proofs.ShapesFail.{problem_stable}
 use Rattle.evidence_core.specs.declared.evidence.Evidence.{Evidence}
 use Rattle.number_text.specs.declared.evidence_items.TheConstants.{THIRD_VERSION}
-use Rattle.number_text.specs.Evidence.{third_item}
+use Rattle.number_text.specs.EvidenceItems.{evidence_item}
 use Rattle.number_text.specs.declared.said.Said.{Said}
 use Rattle.number_text.specs.declared.said.Said.TheVariants as said
-use Rattle.number_text.specs.Said.{starts_third, has_third, third_in, third_of, said_of}
+use Rattle.number_text.specs.Said.{starts_evidence, evidence_follows, evidence_in, evidence_of, said_of}
 use Rattle.certificates.specs.Printed.{third_lines, third_text, HasEvidenceText}
 use Rattle.certificates.proofs.EvidenceAgain.{third_again}
 use Rattle.certificates.proofs.EvidenceWords.{third_words}
 
 pub evidence_read : (n : ℕ) (evidence : Evidence) (more : List ℕ) → HasEvidenceText evidence
-    → third_item (text_from n (third_text evidence ++ more)) ≡ Ok (evidence, text_from (n + length (third_lines evidence)) more)
+    → evidence_item (text_from n (third_text evidence ++ more)) ≡ Ok (evidence, text_from (n + length (third_lines evidence)) more)
 evidence_read n evidence more has =
-    ap third_item (lines_read n (third_lines evidence) more (third_words evidence has))
+    ap evidence_item (lines_read n (third_lines evidence) more (third_words evidence has))
     ∙ third_again n evidence (text_from (n + length (third_lines evidence)) more) has
 
 -- ---- behind a problem
@@ -48,38 +48,38 @@ third_token : decimal THIRD_VERSION ≡ codes "3"
 unfolding digits
 third_token = refl
 
-third_first : (n : ℕ) (evidence : Evidence) (text : Text) → starts_third (lines_before (numbered n (third_lines evidence)) text).lines ≡ true
+third_first : (n : ℕ) (evidence : Evidence) (text : Text) → starts_evidence (lines_before (numbered n (third_lines evidence)) text).lines ≡ true
 third_first n evidence text = rw third_token refl
 
-third_there : (n : ℕ) (evidence : Evidence) → HasEvidenceText evidence → starts_third (text_from n (third_text evidence)).lines ≡ true
+third_there : (n : ℕ) (evidence : Evidence) → HasEvidenceText evidence → starts_evidence (text_from n (third_text evidence)).lines ≡ true
 third_there n evidence has =
-    ap (λ (t : Text). starts_third t.lines) (alone n evidence has) ∙ third_first n evidence (text_from (n + length (third_lines evidence)) [])
+    ap (λ (t : Text). starts_evidence t.lines) (alone n evidence has) ∙ third_first n evidence (text_from (n + length (third_lines evidence)) [])
 
 -- and is read to its end
 abbrev ended : ProblemText → Evidence × Text → Result (ProblemText × Said) TextFault
 ended problem evidence = text_end evidence.1 >>= λ end. Ok (problem, said.Evidence evidence.0)
 
 abbrev behind_problem : ProblemText × Text → Result (ProblemText × Said) TextFault
-behind_problem problem = third_item problem.1 >>= λ evidence. ended problem.0 evidence
+behind_problem problem = evidence_item problem.1 >>= λ evidence. ended problem.0 evidence
 
 to_the_end : (n : ℕ) (problem : ProblemText) (evidence : Evidence) → HasEvidenceText evidence
     → behind_problem (problem, text_from n (third_text evidence)) ≡ Ok (problem, said.Evidence evidence)
 to_the_end n problem evidence has =
     let k = n + length (third_lines evidence) in
-    let read : third_item (text_from n (third_text evidence)) ≡ Ok (evidence, text_from k []) =
-    ap (λ (bytes : List ℕ). third_item (text_from n bytes)) (sym (append-nil (third_text evidence))) ∙ evidence_read n evidence [] has in
+    let read : evidence_item (text_from n (third_text evidence)) ≡ Ok (evidence, text_from k []) =
+    ap (λ (bytes : List ℕ). evidence_item (text_from n bytes)) (sym (append-nil (third_text evidence))) ∙ evidence_read n evidence [] has in
     let last : ended problem (evidence, text_from k []) ≡ Ok (problem, said.Evidence evidence) =
     ap (λ r. r >>= λ end. Ok (problem, said.Evidence evidence)) (at_end k) in
     ap (λ r. r >>= λ w. ended problem w) read ∙ last
 
-whole_third : (text : Text) (problem : ProblemText) (tail : Text) → problem_item text ≡ Ok (problem, tail) → third_in text ≡ behind_problem (problem, tail)
-unfolding third_in
+whole_third : (text : Text) (problem : ProblemText) (tail : Text) → problem_item text ≡ Ok (problem, tail) → evidence_in text ≡ behind_problem (problem, tail)
+unfolding evidence_in
 whole_third text problem tail item = ap (λ r. r >>= λ p. behind_problem p) item
 
-said_third : (bytes : List ℕ) (problem : ProblemText) (tail : Text) → problem_item (text_of bytes) ≡ Ok (problem, tail) → starts_third tail.lines ≡ true
-    → said_of bytes ≡ third_of bytes
+said_third : (bytes : List ℕ) (problem : ProblemText) (tail : Text) → problem_item (text_of bytes) ≡ Ok (problem, tail) → starts_evidence tail.lines ≡ true
+    → said_of bytes ≡ evidence_of bytes
 said_third bytes problem tail item third =
-    let has : has_third (problem_item (text_of bytes)) ≡ true = ap has_third item ∙ third in
+    let has : evidence_follows (problem_item (text_of bytes)) ≡ true = ap evidence_follows item ∙ third in
     rw has refl
 
 pub evidence_behind : (bytes : List ℕ) (problem : ProblemText) (evidence : Evidence) → are_whole_lines bytes ≡ true → problem_of bytes ≡ Ok problem

@@ -15,8 +15,8 @@ use Rattle.text_items.specs.declared.fault.TextFault.{TextFault}
 use Rattle.text_items.specs.declared.fault.TextFault.TheVariants.{Malformed}
 use Rattle.text_items.specs.declared.reading.TheConstants.{MAX_NUMBER}
 use Rattle.text_items.specs.Reading.{◌>>=◌, next_line, next_token, line_end, word, last_count, text_end}
-use Rattle.text_items.specs.NumberLines.{line_numbers, numbers_behind, is_long}
-use Rattle.text_items.specs.Kept.{low}
+use Rattle.text_items.specs.NumberLists.{line_numbers, is_long}
+use Rattle.text_items.specs.Numbers.{numbers_behind, low}
 use Rattle.text_items.specs.Braids.{letters, letter_of, is_long_letter}
 use Rattle.verdict_text.specs.Cocycles.{cocycle_item}
 use Rattle.text_items.specs.Quandles.{quandle_at}
@@ -45,12 +45,11 @@ use Rattle.evidence_core.specs.declared.evidence.Evidence.{Evidence}
 use Rattle.evidence_core.specs.declared.evidence.Evidence.TheVariants.{Numbers, Linking}
 use Rattle.number_text.specs.declared.evidence_items.TheConstants.{THIRD_VERSION}
 use Rattle.number_text.specs.BlockCocycles.{cocycle_or_none}
-use Rattle.number_text.specs.Evidence.{seeds_at, numbers_line_at, seeded_numbers_item, count_of, numbers_evidence, components_at, letters_at, linked_item}
-use Rattle.number_text.specs.Evidence.{linking_evidence}
-use Rattle.number_text.specs.Evidence.{evidence_at, head_at, third_item}
+use Rattle.number_text.specs.NumberLines.{seeds_at, numbers_line_at, seeded_numbers_item, components_at, linking_numbers_at, linked_item}
+use Rattle.number_text.specs.EvidenceItems.{count_of, numbers_evidence, linking_evidence, evidence_at, head_at, evidence_item}
 use Rattle.number_text.specs.declared.said.Said.{Said}
 use Rattle.number_text.specs.declared.said.Said.TheVariants as said
-use Rattle.number_text.specs.Said.{is_third_line, starts_third, has_third, third_in, with_verdict, said_in}
+use Rattle.number_text.specs.Said.{is_evidence_head, starts_evidence, evidence_follows, evidence_in, with_verdict, said_in}
 
 -- ---- lines of numbers
 
@@ -78,8 +77,8 @@ components_at_at : (line : NumberedLine) → At line.number (components_at line)
 unfolding components_at last_count
 components_at_at line = word_count_at (codes "components") MAX_NUMBER line
 
-letters_at_at : (line : NumberedLine) → At line.number (letters_at line)
-unfolding letters_at
+letters_at_at : (line : NumberedLine) → At line.number (linking_numbers_at line)
+unfolding linking_numbers_at
 letters_at_at line =
     at_bind (word_at (codes "numbers") line) (λ rest e. at_same ((word_keeps (codes "numbers") line).of rest e)
     (at_bind (tokens_at letter_of rest.number rest.tokens) (λ values f. at_cond (list_any is_long_letter values) at_limit at_ok)))
@@ -90,8 +89,8 @@ linked_with count list = record { components = count; numbers = list }
 linked_steady : Steady Anywhere linked_item
 unfolding linked_item
 linked_steady =
-    line_then components_at (λ count text. next_line text >>= λ two. letters_at two.0 >>= λ list. Ok (linked_with count list, two.1)) components_at_at
-    (λ count. line_then letters_at (λ list text. Ok (linked_with count list, text)) letters_at_at (λ list. pure_steady (linked_with count list)))
+    line_then components_at (λ count text. next_line text >>= λ two. linking_numbers_at two.0 >>= λ list. Ok (linked_with count list, two.1)) components_at_at
+    (λ count. line_then linking_numbers_at (λ list text. Ok (linked_with count list, text)) letters_at_at (λ list. pure_steady (linked_with count list)))
 
 -- ---- the numbers of both diagrams, behind a quandle
 
@@ -279,14 +278,14 @@ head_at_at line =
     at_bind (at_same ((word_keeps (codes "certificate") line).of rest e) (last_count_at rest))
     (λ version f. at_cond (version == THIRD_VERSION) at_ok at_malformed))
 
-pub third_steady : Steady Anywhere third_item
-unfolding third_item
+pub third_steady : Steady Anywhere evidence_item
+unfolding evidence_item
 third_steady = line_then head_at (λ version text. next_line text >>= λ line. evidence_at line.0 line.1) head_at_at (λ version. evidence_steady)
 
 -- ---- what is said
 
 abbrev third_end : ProblemText → Text → Result (ProblemText × Said) TextFault
-third_end p text = third_item text >>= λ evidence. text_end evidence.1 >>= λ end. Ok (p, said.Evidence evidence.0)
+third_end p text = evidence_item text >>= λ evidence. text_end evidence.1 >>= λ end. Ok (p, said.Evidence evidence.0)
 
 abbrev verdict_end : ProblemText → Text → Result (ProblemText × Said) TextFault
 verdict_end p text =
@@ -294,7 +293,7 @@ verdict_end p text =
 
 -- behind a problem
 abbrev said_end : ProblemText → Text → Result (ProblemText × Said) TextFault
-said_end p text = by_next starts_third (third_end p) (verdict_end p) text
+said_end p text = by_next starts_evidence (third_end p) (verdict_end p) text
 
 flat_end : (s : Result (Unit {0}) TextFault) (p : ProblemText) (v : Verdict)
     → with_verdict (s >>= λ end. Ok (p, v)) ≡ (s >>= λ end. Ok (p, said.Verdict v))
@@ -308,27 +307,27 @@ flat_judged (Ok verdict) p = flat_end (text_end verdict.1) p verdict.0
 flat_judged (Err e) p = refl
 
 flat_said : (r : Result (ProblemText × Text) TextFault)
-    → cond (has_third r) (r >>= λ problem. third_end problem.0 problem.1)
+    → cond (evidence_follows r) (r >>= λ problem. third_end problem.0 problem.1)
     (with_verdict (r >>= λ problem. verdict_item (column_count problem.0.first) (column_count problem.0.second) problem.1
     >>= λ verdict. text_end verdict.1 >>= λ end. Ok (problem.0, verdict.0)))
     ≡ (r >>= λ problem. said_end problem.0 problem.1)
 flat_said (Err e) = refl
 flat_said (Ok problem) =
-    ap (λ v. cond (starts_third problem.1.lines) (third_end problem.0 problem.1) v)
+    ap (λ v. cond (starts_evidence problem.1.lines) (third_end problem.0 problem.1) v)
     (flat_judged (verdict_item (column_count problem.0.first) (column_count problem.0.second) problem.1) problem.0)
 
 said_is : (text : Text) → said_in text ≡ then_read problem_item said_end text
-unfolding third_in check_in
+unfolding evidence_in check_in
 said_is text = flat_said (problem_item text)
 
-third_of_next : IsOfNextLine starts_third
+third_of_next : IsOfNextLine starts_evidence
 third_of_next [] ys zs line = refl
 third_of_next (x ∷ xs) ys zs line = refl
 
 end_of_said : (p : ProblemText) → FailsFirst (said_end p)
 end_of_said p =
-    by_next_fails starts_third (third_end p) (verdict_end p) third_of_next refl
-    (then_fails Anywhere third_item (λ evidence text. text_end text >>= λ end. Ok (p, said.Evidence evidence)) anywhere_seen third_steady
+    by_next_fails starts_evidence (third_end p) (verdict_end p) third_of_next refl
+    (then_fails Anywhere evidence_item (λ evidence text. text_end text >>= λ end. Ok (p, said.Evidence evidence)) anywhere_seen third_steady
     (λ evidence. end_fails (p, said.Evidence evidence)))
     (then_fails Anywhere (verdict_item (column_count p.first) (column_count p.second))
     (λ verdict text. text_end text >>= λ end. Ok (p, said.Verdict verdict)) anywhere_seen

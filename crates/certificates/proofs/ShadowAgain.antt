@@ -23,7 +23,7 @@ use Rattle.text_items.specs.declared.fault.TextFault.{TextFault}
 use Rattle.text_items.specs.declared.fault.TextFault.TheVariants.{Malformed}
 use Rattle.text_items.specs.declared.modulus.TheConstants.{MAX_MODULUS}
 use Rattle.text_items.specs.Reading.{next_line, next_token, line_end}
-use Rattle.text_items.specs.NumberLines.{numbers_below}
+use Rattle.text_items.specs.Numbers.{numbers_below}
 use Rattle.text_items.specs.Quandles.{table_row, table_rows}
 use Rattle.knot_text.specs.Printed.{row_tokens}
 use Rattle.knot_text.proofs.LineTexts.{map_decimals}

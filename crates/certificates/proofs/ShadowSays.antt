@@ -14,7 +14,7 @@ use Rattle.text_lines.specs.NumberTokens.{number_of}
 use Rattle.text_items.specs.declared.fault.TextFault.{TextFault}
 use Rattle.text_items.specs.declared.modulus.TheConstants.{MAX_MODULUS}
 use Rattle.text_items.specs.Reading.{next_line, next_token, line_end, word, or_malformed}
-use Rattle.text_items.specs.NumberLines.{numbers_below}
+use Rattle.text_items.specs.Numbers.{numbers_below}
 use Rattle.text_items.specs.Quandles.{table_rows}
 use Rattle.knot_text.proofs.Says.{Says, says_ok, says_err, says_bind, says_if}
 use Rattle.knot_text.proofs.LineSays.{at_most_says}

@@ -11,6 +11,6 @@ pub use Rattle.verdict_text.specs.Problems
 pub use Rattle.knot_text.specs.Shapes
 pub use Rattle.knot_text.specs.Weights
 pub use Rattle.knot_text.specs.FirstBadLine
-pub use Rattle.number_text.specs.Evidence
+pub use Rattle.number_text.specs.EvidenceItems
 pub use Rattle.number_text.specs.Weighed
 pub use Rattle.number_text.specs.Said as ReadSaid

@@ -18,7 +18,7 @@ use Rattle.evidence_core.specs.declared.evidence.Linked.{Linked}
 use Rattle.evidence_core.specs.declared.evidence.Evidence.{Evidence}
 use Rattle.evidence_core.specs.declared.evidence.Evidence.TheVariants.{Numbers, Linking}
 use Rattle.number_text.specs.declared.evidence_items.TheConstants.{THIRD_VERSION}
-use Rattle.number_text.specs.Evidence.{count_of}
+use Rattle.number_text.specs.EvidenceItems.{count_of}
 
 -- the lines of a cocycle, if there is one
 abbrev pub perhaps_cocycle : Option LargeWeighing → List (List (List ℕ))

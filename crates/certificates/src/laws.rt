@@ -8,11 +8,11 @@ ghost use Rattle.verdict_text.specs.Problems.{problem_item, problem_of, check_of
 ghost use Rattle.evidence_core.specs.declared.evidence.Evidence.{Evidence};
 ghost use Rattle.evidence_core.specs.declared.shadows.SpelledShadow.{SpelledShadow};
 ghost use Rattle.number_text.specs.Shadows.{shadow_item};
-ghost use Rattle.number_text.specs.Evidence.{third_item};
+ghost use Rattle.number_text.specs.EvidenceItems.{evidence_item};
 ghost use Rattle.number_text.specs.Weighed.{weighed_in, weighed_of};
 ghost use Rattle.number_text.specs.declared.weighed.Weighing.TheVariants.{Strands};
 ghost use Rattle.number_text.specs.declared.said.Said.TheVariants as said;
-ghost use Rattle.number_text.specs.Said.{has_third, with_verdict, said_in, said_of};
+ghost use Rattle.number_text.specs.Said.{evidence_follows, with_verdict, said_in, said_of};
 ghost use Rattle.certificates.specs.Printed.{third_lines, third_text, HasEvidenceText};
 ghost use Rattle.certificates.specs.Shadows.{shadow_lines, shadow_text, HasShadowText};
 
@@ -21,7 +21,7 @@ use verdict_core::{ProblemText, Verdict};
 
 /// A text in which no line `certificate 3` follows the problem is read as without this version: the same problem and verdict, or the same fault.
 pub fn a_text_without_a_third_version_is_read_as_before()
-    ensures { (bytes : List ℕ) → has_third (problem_item (text_of bytes)) ≡ false → said_of bytes ≡ with_verdict (check_of bytes) }
+    ensures { (bytes : List ℕ) → evidence_follows (problem_item (text_of bytes)) ≡ false → said_of bytes ≡ with_verdict (check_of bytes) }
 {}
 
 /// Whatever is read as a problem and a verdict of the first or the second version is read as these, and nothing else is read as a verdict.
@@ -35,7 +35,7 @@ pub fn what_was_read_before_is_read_so()
 /// Printed evidence is read back, whatever follows it, if it has a text.
 pub fn printed_evidence_is_read()
     ensures { (n : ℕ) (evidence : Evidence) (more : List ℕ) → HasEvidenceText evidence
-        → third_item (text_from n (third_text evidence ++ more)) ≡ Ok (evidence, text_from (n + length (third_lines evidence)) more) }
+        → evidence_item (text_from n (third_text evidence ++ more)) ≡ Ok (evidence, text_from (n + length (third_lines evidence)) more) }
 {}
 
 /// Evidence that is printed after the whole lines of a problem is read with it.

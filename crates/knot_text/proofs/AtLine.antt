@@ -10,7 +10,8 @@ use Rattle.text_items.specs.declared.fault.TextFault.{TextFault}
 use Rattle.text_items.specs.declared.fault.TextFault.TheVariants.{Malformed, Limit}
 use Rattle.text_items.specs.Reading.{◌>>=◌, next_token, line_end, word, or_malformed, number, last_number, last_count, at_most, token_among, next_line}
 use Rattle.text_items.specs.Reading.{no_token_among, each_token}
-use Rattle.text_items.specs.NumberLines.{line_numbers, is_long, numbers_below}
+use Rattle.text_items.specs.NumberLists.{line_numbers, is_long}
+use Rattle.text_items.specs.Numbers.{numbers_below}
 use Rattle.knot_text.specs.FirstBadLine.{NamesLine}
 use Rattle.knot_text.proofs.Steady.{bind_ok, bind_err, ok_is, Steady, Anywhere, line_steady}
 

@@ -7,8 +7,7 @@ use Rattle.arrayvec.specs.ArrayVec.{ArrayVec}
 use Rattle.colour_rows.specs.Colouring.{are_colours}
 use Rattle.text_lines.specs.Lines.{NumberedLine}
 use Rattle.text_items.specs.declared.fault.TextFault.TheVariants.{Malformed}
-use Rattle.text_items.specs.NumberLines.{numbers_behind}
-use Rattle.text_items.specs.Kept.{low, CutsRead}
+use Rattle.text_items.specs.Numbers.{numbers_behind, low, CutsRead}
 use Rattle.knot_text.specs.Colours.{colours_at}
 use Rattle.text_items.proofs.Cuts.{all_low, same_low}
 

@@ -14,7 +14,7 @@ use Rattle.grid_core.proofs.OneEach.{IsApart, each_below, each_apart}
 use Rattle.text_lines.specs.Lines.{Text}
 use Rattle.text_lines.specs.Spelled.{numbered}
 use Rattle.text_items.specs.Reading.{next_line}
-use Rattle.text_items.specs.NumberLines.{numbers_behind}
+use Rattle.text_items.specs.Numbers.{numbers_behind}
 use Rattle.text_items.specs.Grids.{is_one_each, are_rows, x_at, o_at, grid_item}
 use Rattle.knot_text.specs.Printed.{rows_tokens, grid_lines}
 use Rattle.text_items.proofs.GridLines.{no_repeat}

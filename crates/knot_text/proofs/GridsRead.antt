@@ -16,7 +16,7 @@ use Rattle.verdict_core.specs.declared.diagrams.Diagram.{Diagram}
 use Rattle.verdict_core.specs.declared.diagrams.Diagram.TheVariants.{Grid, Braid}
 use Rattle.verdict_core.specs.declared.problem.ProblemText.{ProblemText}
 use Rattle.text_items.specs.Reading.{◌>>=◌, next_line, word, number}
-use Rattle.text_items.specs.NumberLines.{numbers_behind}
+use Rattle.text_items.specs.Numbers.{numbers_behind}
 use Rattle.text_items.specs.Grids.{x_at, o_at, grid_item}
 use Rattle.text_items.specs.Braids.{letters, exceeds, braid_of, braid_at, braid_item}
 use Rattle.text_items.specs.Quandles.{quandle_list}

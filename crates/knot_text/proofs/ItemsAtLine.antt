@@ -24,7 +24,8 @@ use Rattle.text_items.specs.declared.quandles.Written.TheVariants as written
 use Rattle.verdict_core.specs.declared.verdict.Verdict.{Verdict}
 use Rattle.verdict_core.specs.declared.verdict.Verdict.TheVariants.{UnknownExhausted}
 use Rattle.text_items.specs.Reading.{◌>>=◌, next_token, word, number, last_number, at_most}
-use Rattle.text_items.specs.NumberLines.{is_long, numbers_behind}
+use Rattle.text_items.specs.NumberLists.{is_long}
+use Rattle.text_items.specs.Numbers.{numbers_behind}
 use Rattle.text_items.specs.Grids.{are_rows, x_at, o_at}
 use Rattle.text_items.specs.Braids.{letter_of, exceeds, braid_of, braid_at}
 use Rattle.knot_text.specs.Colours.{colours_at}

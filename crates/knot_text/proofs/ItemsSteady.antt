@@ -18,7 +18,7 @@ use Rattle.verdict_core.specs.declared.verdict.Verdict.{Verdict}
 use Rattle.verdict_core.specs.declared.verdict.Verdict.TheVariants.{Equal, Different}
 use Rattle.quandle_core.specs.Names.{NamedQuandle, called}
 use Rattle.text_items.specs.Reading.{◌>>=◌, in_turn, next_line, next_token, word, last_number, last_count, at_most, or_malformed}
-use Rattle.text_items.specs.NumberLines.{numbers_below}
+use Rattle.text_items.specs.Numbers.{numbers_below}
 use Rattle.text_items.specs.Grids.{x_at, o_at, grid_item}
 use Rattle.text_items.specs.Braids.{braid_at, braid_item}
 use Rattle.knot_text.specs.Colours.{colours_at, colours_item, coloured_item}

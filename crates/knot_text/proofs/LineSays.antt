@@ -14,7 +14,8 @@ use Rattle.knot_text.proofs.NumberTexts.{number_spelling}
 use Rattle.text_items.specs.declared.reading.TheConstants.{MAX_NUMBER}
 use Rattle.text_items.specs.Reading.{token_among, next_token, no_token_among, line_end, word, or_malformed}
 use Rattle.text_items.specs.Reading.{number, last_number, at_most, last_count, each_token}
-use Rattle.text_items.specs.NumberLines.{is_long, numbers_behind, numbers_below}
+use Rattle.text_items.specs.NumberLists.{is_long}
+use Rattle.text_items.specs.Numbers.{numbers_behind, numbers_below}
 use Rattle.knot_text.proofs.Says.{Says, says_ok, says_err, says_bind, says_if, says_more}
 
 -- ---- tokens

@@ -22,7 +22,8 @@ use Rattle.quandle_core.specs.declared.names.QuandleName.TheVariants as name
 use Rattle.quandle_core.specs.Names.{NamedQuandle, IsOrder, NamesWithin, Names, is_order, called}
 use Rattle.quandle_core.proofs.Named.{is_order_of}
 use Rattle.text_items.specs.Reading.{next_line, next_token, line_end}
-use Rattle.text_items.specs.NumberLines.{numbers_below, is_long}
+use Rattle.text_items.specs.NumberLists.{is_long}
+use Rattle.text_items.specs.Numbers.{numbers_below}
 use Rattle.text_items.specs.Quandles.{written_at, alexander_at, tetrahedral_at, table_row, table_rows, table_item, quandle_at}
 use Rattle.knot_text.specs.Printed.{name_tokens, row_tokens, table_lines, HasFactor}
 use Rattle.knot_text.proofs.LineTexts.{map_decimals}

@@ -27,7 +27,8 @@ use Rattle.text_items.specs.declared.quandles.Written.TheVariants as written
 use Rattle.quandle_core.proofs.Named.{order_is}
 use Rattle.quandle_core.specs.Names.{NamedQuandle, is_order, called}
 use Rattle.text_items.specs.Reading.{◌>>=◌, or_malformed}
-use Rattle.text_items.specs.NumberLines.{numbers_below, is_long}
+use Rattle.text_items.specs.NumberLists.{is_long}
+use Rattle.text_items.specs.Numbers.{numbers_below}
 use Rattle.text_items.specs.Quandles.{with_order, alexander_at, tetrahedral_at, written_at, is_over, meant, table_row, table_rows}
 use Rattle.text_items.specs.Quandles.{table_item, quandle_of, quandle_at, quandle_item, surplus_quandle, quandles}
 use Rattle.knot_text.specs.Printed.{name_tokens, row_tokens, table_lines, quandle_lines, HasQuandleTextWithin, HasQuandleText}

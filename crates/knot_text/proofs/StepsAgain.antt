@@ -12,7 +12,8 @@ use Rattle.knot_text.proofs.NumberTexts.{decimal_read}
 use Rattle.text_items.specs.declared.fault.TextFault.{TextFault}
 use Rattle.text_items.specs.declared.reading.TheConstants.{MAX_NUMBER}
 use Rattle.text_items.specs.Reading.{in_turn, next_token, line_end, word, number, last_number, last_count, at_most, each_token}
-use Rattle.text_items.specs.NumberLines.{is_long, numbers_below}
+use Rattle.text_items.specs.NumberLists.{is_long}
+use Rattle.text_items.specs.Numbers.{numbers_below}
 
 abbrev pub line_of : ℕ → List (List ℕ) → NumberedLine
 line_of n tokens = record { number = n; tokens = tokens }

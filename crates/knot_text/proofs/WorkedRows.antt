@@ -12,7 +12,7 @@ use Rattle.quandle_core.specs.declared.names.QuandleName.TheVariants as name
 use Rattle.quandle_core.specs.Names.{called}
 use Rattle.text_items.specs.Quandles.{built_in}
 use Rattle.text_items.specs.Reading.{next_line, text_end, in_turn, next_token, line_end, word, number, last_number, last_count, each_token}
-use Rattle.text_items.specs.NumberLines.{numbers_below, numbers_behind}
+use Rattle.text_items.specs.Numbers.{numbers_below, numbers_behind}
 use Rattle.text_items.specs.Grids.{x_at, o_at, grid_item}
 use Rattle.text_items.specs.Braids.{braid_at, braid_item}
 use Rattle.knot_text.specs.Colours.{colours_at, colours_item, coloured_item, coloured}

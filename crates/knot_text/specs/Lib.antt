@@ -10,7 +10,7 @@ pub mod Printed
 pub mod WrittenThere
 pub mod FirstBadLine
 pub use Rattle.text_items.specs.Reading
-pub use Rattle.text_items.specs.NumberLines
+pub use Rattle.text_items.specs.Numbers
 pub use Rattle.text_items.specs.Grids
 pub use Rattle.text_items.specs.Braids
 pub use Rattle.verdict_text.specs.Moves

@@ -21,14 +21,12 @@ pub(crate) struct CountedGrid<'a> {
     pub(crate) counted: &'a Counted,
 }
 
-impl<'a> CountedGrid<'a> {
-    /// A diagram, with what is said of its numbers.
-    pub(crate) fn of(grid: &'a Grid, counted: &'a Counted) -> CountedGrid<'a>
-        ensures grid { result.grid.now ≡ grid.now }
-        ensures counted { result.counted.now ≡ counted.now }
-    {
-        CountedGrid { grid, counted }
-    }
+/// A diagram, with what is said of its numbers.
+pub(crate) fn said_on<'a>(grid: &'a Grid, counted: &'a Counted) -> CountedGrid<'a>
+    ensures grid { result.grid.now ≡ grid.now }
+    ensures counted { result.counted.now ≡ counted.now }
+{
+    CountedGrid { grid, counted }
 }
 
 /// Numbers that are said to be those of a diagram, by seeds of it.
@@ -58,7 +56,8 @@ pub(crate) fn cause_of_counts(
     }
 }
 
-/// Why what is said of the numbers of a diagram does not hold, by a plan of its seeds, which settle the diagram.
+/// Why what is said of the numbers of a diagram does not hold, by a plan of its seeds, which settle the diagram: what `settled_cause` answers, of which
+/// it proves the clauses `some` and `none`.
 fn cause_by(
     alloc: Global,
     which: u8,
@@ -72,17 +71,17 @@ fn cause_by(
     ensures some { IfOk result (λ o. IfSome o (λ cause. IsCauseOf block.now which said.now.grid.now said.now.counted.now cause)) }
     ensures none { IfOk result (λ o. o ≡ None → AreNumbersOf block.now said.now.grid.now said.now.counted.now) }
 {
-    let numbers = SaidNumbers {
+    let said_numbers = SaidNumbers {
         which,
         seeds: said.counted.seeds.as_slice(),
         numbers: said.counted.numbers.as_slice(),
     };
-    let given = settled_cause(alloc, said.grid, block, &numbers, seeding)?;
+    let given = settled_cause(alloc, said.grid, block, &said_numbers, seeding)?;
     Ok(given)
 }
 
-/// Why numbers are not shown to be those of a diagram by seeds, of which this is a plan: they have too many choices of colours, or else the
-/// numbers and its own first differ at a place. `None` where they are its own. It counts the diagram's colourings once.
+/// The first cause why these numbers aren't shown to be the diagram's own: its seeds, of which `seeding` is a plan, have too many choices of colours,
+/// or else the numbers and its own first differ at a place. `None` if they are its own. It counts the diagram's colourings once.
 pub fn settled_cause(
     alloc: Global,
     grid: &Grid,

@@ -1,13 +1,14 @@
 //! The ruling on evidence by numbers.
-ghost use Rattle.std.specs.Prelude.{◌≡◌, ◌↔◌, IfOk};
+ghost use Rattle.std.specs.Prelude.{◌≡◌, ◌↔◌, Some, None, IfOk, IfSome};
 ghost use Rattle.grid_moves.specs.Joining.{Equivalent};
 ghost use Rattle.quandle_core.specs.Quandle.{IsQuandle};
 ghost use Rattle.colour_numbers.specs.Numbers.{IsCocycleOrNone};
 ghost use Rattle.evidence_core.specs.declared.evidence.Evidence.TheVariants.{Numbers, Linking};
-ghost use Rattle.number_check.specs.EvidenceHolds.{EvidenceHolds};
+ghost use Rattle.number_check.specs.EvidenceHolds.{AreNumbersOf, EvidenceHolds};
+ghost use Rattle.number_check.specs.Cause.{IsEvidenceCause};
 ghost use Rattle.number_check.specs.Ruling.{RulesOnEvidence};
 
-use crate::counts::{CountedGrid, cause_of_counts};
+use crate::counts::{CountedGrid, cause_of_counts, said_on};
 use evidence_core::{Block, Cause, Evidence, LargeWeighing, Linked, NumberRuling, cause_of_links};
 use grid_core::Grid;
 use memory_core::OutOfMemory;
@@ -46,12 +47,7 @@ fn ruled(
             block,
             first: one,
             second: two,
-        } => rule_counts(
-            alloc,
-            block,
-            &CountedGrid::of(first, one),
-            &CountedGrid::of(second, two),
-        ),
+        } => rule_counts(alloc, block, &said_on(first, one), &said_on(second, two)),
         Evidence::Linking {
             first: one,
             second: two,
@@ -70,16 +66,34 @@ fn rule_counts(
     ensures apart { IfOk result (λ r. r ≡ NumberRuling.Accepted → Equivalent one.now.grid.now two.now.grid.now → ⊥) }
 {
     laws_of(block);
-    if let Some(cause) = cause_of_counts(alloc, 1, block, one)? {
-        return Ok(NumberRuling::Rejected(cause));
-    }
-    if let Some(cause) = cause_of_counts(alloc, 2, block, two)? {
+    if let Some(cause) = cause_of_both(alloc, block, one, two)? {
         return Ok(NumberRuling::Rejected(cause));
     }
     if one.counted.numbers.as_slice() == two.counted.numbers.as_slice() {
         return Ok(NumberRuling::Rejected(Cause::Equal));
     }
     Ok(NumberRuling::Accepted)
+}
+
+/// Why what is said of the numbers of two diagrams does not hold: the first cause of the first diagram, else that of the second, if there is one.
+fn cause_of_both(
+    alloc: Global,
+    block: &Block,
+    one: &CountedGrid<'_>,
+    two: &CountedGrid<'_>,
+) -> Result<Option<Cause>, OutOfMemory>
+    ensures some { IfOk result (λ o. IfSome o (λ cause.
+        IsEvidenceCause one.now.grid.now two.now.grid.now (Numbers block.now one.now.counted.now two.now.counted.now) cause)) }
+    ensures first { IfOk result (λ o. o ≡ None → AreNumbersOf block.now one.now.grid.now one.now.counted.now) }
+    ensures second { IfOk result (λ o. o ≡ None → AreNumbersOf block.now two.now.grid.now two.now.counted.now) }
+{
+    if let Some(cause) = cause_of_counts(alloc, 1, block, one)? {
+        return Ok(Some(cause));
+    }
+    if let Some(cause) = cause_of_counts(alloc, 2, block, two)? {
+        return Ok(Some(cause));
+    }
+    Ok(None)
 }
 
 /// Gives proofs the facts that a block's quandle is a quandle and its cocycle, if it has one, a cocycle. It does nothing.
@@ -91,11 +105,20 @@ pub fn laws_of(block: &Block)
     let _order = quandle.order();
     match &block.cocycle {
         None => {}
-        Some(LargeWeighing::Strands(cocycle)) => {
+        Some(cocycle) => laws_of_cocycle(cocycle),
+    }
+}
+
+/// Gives proofs the fact that a cocycle has the laws of its kind. It does nothing.
+fn laws_of_cocycle(cocycle: &LargeWeighing)
+    ensures { IsCocycleOrNone (Some cocycle.now) }
+{
+    match cocycle {
+        LargeWeighing::Strands(cocycle) => {
             let values = cocycle.values();
             let _modulus = values.modulus();
         }
-        Some(LargeWeighing::Regions(shadow)) => {
+        LargeWeighing::Regions(shadow) => {
             let _modulus = shadow.cocycle.modulus();
         }
     }

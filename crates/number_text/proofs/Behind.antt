@@ -9,21 +9,21 @@ use Rattle.verdict_core.specs.declared.verdict.Verdict.{Verdict}
 use Rattle.verdict_text.specs.Verdicts.{verdict_item}
 use Rattle.verdict_text.specs.Problems.{problem_item, check_in}
 use Rattle.number_text.specs.declared.said.Said.TheVariants as said
-use Rattle.number_text.specs.Said.{starts_third, third_in, third_behind, verdict_behind, with_verdict, said_in}
+use Rattle.number_text.specs.Said.{starts_evidence, evidence_in, evidence_after, verdict_after, with_verdict, said_in}
 
 -- a text is read as a fault of its problem says
 pub fails : (text : Text) (e : TextFault) → problem_item text ≡ Err e → said_in text ≡ Err e
 unfolding check_in
 fails text e is = rw is refl
 
-pub third : (text : Text) (p : ProblemText × Text) → problem_item text ≡ Ok p → starts_third p.1.lines ≡ true
-    → said_in text ≡ third_behind p.0 p.1
-unfolding third_in third_behind
-third text p is starts = rw (is, starts) refl
+pub evidence : (text : Text) (p : ProblemText × Text) → problem_item text ≡ Ok p → starts_evidence p.1.lines ≡ true
+    → said_in text ≡ evidence_after p.0 p.1
+unfolding evidence_in evidence_after
+evidence text p is starts = rw (is, starts) refl
 
-pub earlier : (text : Text) (p : ProblemText × Text) → problem_item text ≡ Ok p → starts_third p.1.lines ≡ false
-    → said_in text ≡ verdict_behind p.0 p.1
-unfolding check_in verdict_behind
+pub earlier : (text : Text) (p : ProblemText × Text) → problem_item text ≡ Ok p → starts_evidence p.1.lines ≡ false
+    → said_in text ≡ verdict_after p.0 p.1
+unfolding check_in verdict_after
 earlier text p is starts = rw (is, starts) (by (verdict_item (column_count p.0.first) (column_count p.0.second) p.1))
   where
     by : (v : Result (Verdict × Text) TextFault)

@@ -5,7 +5,8 @@ use Rattle.text_items.specs.declared.fault.TextFault.TheVariants.{Malformed}
 use Rattle.text_items.specs.Reading.{next_line, next_token, line_end, word, number, last_number, last_count, each_token}
 use Rattle.evidence_core.specs.declared.evidence.Linked.{Linked}
 use Rattle.evidence_core.specs.declared.evidence.Evidence.TheVariants.{Linking}
-use Rattle.number_text.specs.Evidence.{components_at, letters_at, linked_item, linking_evidence, evidence_at, head_at, third_item}
+use Rattle.number_text.specs.NumberLines.{components_at, linking_numbers_at, linked_item}
+use Rattle.number_text.specs.EvidenceItems.{linking_evidence, evidence_at, head_at, evidence_item}
 
 -- two links, of two components and of one
 abbrev links : List ℕ
@@ -17,12 +18,12 @@ two = record { components = 2; numbers = negsuc 0 ∷ pos 1 ∷ [] }
 abbrev one : Linked
 one = record { components = 1; numbers = [] }
 
-of_the_third_version : third_item (text_of (codes "certificate 3\n" ++ links)) ≡ Ok (Linking two one, record { lines = []; ending = 7 })
-unfolding third_item head_at evidence_at linking_evidence linked_item components_at letters_at next_line next_token line_end word number last_number
+of_the_third_version : evidence_item (text_of (codes "certificate 3\n" ++ links)) ≡ Ok (Linking two one, record { lines = []; ending = 7 })
+unfolding evidence_item head_at evidence_at linking_evidence linked_item components_at linking_numbers_at next_line next_token line_end word number last_number
     last_count each_token
 of_the_third_version = refl
 
-of_the_second : third_item (text_of (codes "certificate 2\n" ++ links)) ≡ Err (Malformed 1)
-unfolding third_item head_at evidence_at linking_evidence linked_item components_at letters_at next_line next_token line_end word number last_number
+of_the_second : evidence_item (text_of (codes "certificate 2\n" ++ links)) ≡ Err (Malformed 1)
+unfolding evidence_item head_at evidence_at linking_evidence linked_item components_at linking_numbers_at next_line next_token line_end word number last_number
     last_count each_token
 of_the_second = refl

@@ -28,12 +28,12 @@ surplus_block text = do
   name ← written_at rest
   Err (Limit line.0.number)
 
--- all blocks up to the first line behind one that does not begin with `quandle`, of which there may be as many as the second number
-unfoldable pub blocks : ℕ → ℕ → Text → Result (List Block × Text) TextFault
-blocks most zero text = if begins (codes "quandle") text then surplus_block text else Ok ([], text)
-blocks most (suc room) text = if begins (codes "quandle") text then (do
+-- all blocks, up to the first line that follows a block and does not begin with `quandle`; there may be as many as the second number
+unfoldable pub listed_blocks : ℕ → ℕ → Text → Result (List Block × Text) TextFault
+listed_blocks most zero text = if begins (codes "quandle") text then surplus_block text else Ok ([], text)
+listed_blocks most (suc room) text = if begins (codes "quandle") text then (do
   first ← block_item most text
-  others ← blocks most room first.1
+  others ← listed_blocks most room first.1
   Ok (first.0 ∷ others.0, others.1)) else Ok ([], text)
 
 -- a quandle without a cocycle
@@ -41,22 +41,22 @@ abbrev pub alone : NamedQuandle → Block
 alone quandle = record { listed = quandle; cocycle = None }
 
 -- the blocks, or the built-in quandles, each alone, where there are none
-abbrev pub or_built_in_blocks : List Block → List Block
-or_built_in_blocks [] = map alone built_in
-or_built_in_blocks (block ∷ blocks) = block ∷ blocks
+abbrev pub built_in_if_none : List Block → List Block
+built_in_if_none [] = map alone built_in
+built_in_if_none (block ∷ blocks) = block ∷ blocks
 
--- at most MAX_QUANDLES blocks, by tables of orders of at most MAX_LARGE_ORDER, or the built-in quandles where there are none
-unfoldable pub block_list : Text → Result (List Block × Text) TextFault
-block_list text = do
-  listed ← blocks MAX_LARGE_ORDER MAX_QUANDLES text
-  Ok (or_built_in_blocks listed.0, listed.1)
+-- the listed blocks, at most MAX_QUANDLES, by tables of orders of at most MAX_LARGE_ORDER, or the built-in quandles where there are none
+unfoldable pub blocks_or_built_in : Text → Result (List Block × Text) TextFault
+blocks_or_built_in text = do
+  listed ← listed_blocks MAX_LARGE_ORDER MAX_QUANDLES text
+  Ok (built_in_if_none listed.0, listed.1)
 
 -- ---- a text of blocks alone
 
 -- the blocks, by tables of orders of at most MAX_LARGE_ORDER, and nothing behind them
 unfoldable pub blocks_in : Text → Result (List Block) TextFault
 blocks_in text = do
-  listed ← blocks MAX_LARGE_ORDER MAX_QUANDLES text
+  listed ← listed_blocks MAX_LARGE_ORDER MAX_QUANDLES text
   end ← text_end listed.1
   Ok listed.0
 

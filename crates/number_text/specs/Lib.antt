@@ -1,6 +1,7 @@
 pub mod Shadows
 pub mod BlockCocycles
-pub mod Evidence
+pub mod NumberLines
+pub mod EvidenceItems
 pub mod Blocks
 pub mod Numbered
 pub mod Weighed

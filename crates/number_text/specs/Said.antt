@@ -11,36 +11,36 @@ use Rattle.verdict_text.specs.Verdicts.{verdict_item}
 use Rattle.verdict_text.specs.Problems.{problem_item, check_in}
 use Rattle.number_text.specs.declared.said.Said.{Said}
 use Rattle.number_text.specs.declared.said.Said.TheVariants as said
-use Rattle.number_text.specs.Evidence.{third_item}
+use Rattle.number_text.specs.EvidenceItems.{evidence_item}
 
 -- the tokens of the line `certificate 3`
-abbrev pub is_third_line : List (List ℕ) → Bool
-is_third_line [] = false
-is_third_line (word ∷ []) = false
-is_third_line (word ∷ version ∷ []) = bytes_eq word (codes "certificate") && bytes_eq version (codes "3")
-is_third_line (word ∷ version ∷ token ∷ tokens) = false
+abbrev pub is_evidence_head : List (List ℕ) → Bool
+is_evidence_head [] = false
+is_evidence_head (word ∷ []) = false
+is_evidence_head (word ∷ version ∷ []) = bytes_eq word (codes "certificate") && bytes_eq version (codes "3")
+is_evidence_head (word ∷ version ∷ token ∷ tokens) = false
 
 -- the first line is `certificate 3`
-abbrev pub starts_third : List NumberedLine → Bool
-starts_third [] = false
-starts_third (line ∷ lines) = is_third_line line.tokens
+abbrev pub starts_evidence : List NumberedLine → Bool
+starts_evidence [] = false
+starts_evidence (line ∷ lines) = is_evidence_head line.tokens
 
 -- a problem was read, and the line `certificate 3` stands behind it
-abbrev pub has_third : Result (ProblemText × Text) TextFault → Bool
-has_third (Ok problem) = starts_third problem.1.lines
-has_third (Err fault) = false
+abbrev pub evidence_follows : Result (ProblemText × Text) TextFault → Bool
+evidence_follows (Ok problem) = starts_evidence problem.1.lines
+evidence_follows (Err fault) = false
 
 -- a problem and evidence by numbers, and nothing behind them
-unfoldable pub third_in : Text → Result (ProblemText × Said) TextFault
-third_in text = do
+unfoldable pub evidence_in : Text → Result (ProblemText × Said) TextFault
+evidence_in text = do
   problem ← problem_item text
-  evidence ← third_item problem.1
+  evidence ← evidence_item problem.1
   end ← text_end evidence.1
   Ok (problem.0, said.Evidence evidence.0)
 
 -- a problem and evidence by numbers, from the bytes of a text
-abbrev pub third_of : List ℕ → Result (ProblemText × Said) TextFault
-third_of bytes = third_in (text_of bytes)
+abbrev pub evidence_of : List ℕ → Result (ProblemText × Said) TextFault
+evidence_of bytes = evidence_in (text_of bytes)
 
 -- a problem and a verdict, as what is said of its diagrams
 abbrev pub with_verdict : Result (ProblemText × Verdict) TextFault → Result (ProblemText × Said) TextFault
@@ -49,22 +49,22 @@ with_verdict read = do
   Ok (check.0, said.Verdict check.1)
 
 -- behind a problem stands evidence by numbers, and nothing more
-unfoldable pub third_behind : ProblemText → Text → Result (ProblemText × Said) TextFault
-third_behind problem text = do
-  evidence ← third_item text
+unfoldable pub evidence_after : ProblemText → Text → Result (ProblemText × Said) TextFault
+evidence_after problem text = do
+  evidence ← evidence_item text
   end ← text_end evidence.1
   Ok (problem, said.Evidence evidence.0)
 
 -- behind a problem stands a verdict of an earlier version, and nothing more
-unfoldable pub verdict_behind : ProblemText → Text → Result (ProblemText × Said) TextFault
-verdict_behind problem text = do
+unfoldable pub verdict_after : ProblemText → Text → Result (ProblemText × Said) TextFault
+verdict_after problem text = do
   verdict ← verdict_item (column_count problem.first) (column_count problem.second) text
   end ← text_end verdict.1
   Ok (problem, said.Verdict verdict.0)
 
--- evidence by numbers where that line stands behind the problem, else a verdict as it is read without any third version
+-- evidence by numbers where that line stands behind the problem, else a verdict, as `check_in` reads it
 abbrev pub said_in : Text → Result (ProblemText × Said) TextFault
-said_in text = if has_third (problem_item text) then third_in text else with_verdict (check_in text)
+said_in text = if evidence_follows (problem_item text) then evidence_in text else with_verdict (check_in text)
 
 -- a problem and what is said of its two diagrams, from the bytes of a text
 abbrev pub said_of : List ℕ → Result (ProblemText × Said) TextFault

@@ -11,7 +11,7 @@ use Rattle.text_items.specs.declared.fault.TextFault.{TextFault}
 use Rattle.text_items.specs.declared.fault.TextFault.TheVariants.{Malformed}
 use Rattle.text_items.specs.declared.modulus.TheConstants.{MAX_MODULUS}
 use Rattle.text_items.specs.Reading.{◌>>=◌, next_line, next_token, line_end, word, or_malformed, at_most}
-use Rattle.text_items.specs.NumberLines.{numbers_below}
+use Rattle.text_items.specs.Numbers.{numbers_below}
 use Rattle.text_items.specs.Quandles.{table_rows}
 use Rattle.evidence_core.specs.declared.shadows.Spelling.{Spelling}
 use Rattle.evidence_core.specs.declared.shadows.Spelling.TheVariants as spelling

@@ -12,7 +12,7 @@ use text_lines::Lines;
 use verdict_core::LargeListed;
 use verdict_text::large_cocycle_item;
 
-/// A 2-cocycle of a quandle where a line that begins with `weight` is next; a shadow cocycle where it begins with `shadow`; else nothing.
+/// What `perhaps_cocycle` reads, by the operations of the quandle.
 #[tactic(auto, unfolding(crate::specs::BlockCocycles::cocycle_or_none))]
 fn cocycle_or_none(
     alloc: Global,

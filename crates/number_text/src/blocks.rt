@@ -4,7 +4,7 @@ ghost use Rattle.quandle_core.specs.declared.operations.TheConstants.{MAX_LARGE_
 ghost use Rattle.text_items.specs.Reading.{Gives};
 ghost use Rattle.text_items.specs.Quandles.{built_in};
 ghost use Rattle.text_items.specs.declared.fault.TextFault.TheVariants as fault;
-ghost use Rattle.number_text.specs.Blocks.{alone, block_item, surplus_block, blocks, block_list, blocks_of};
+ghost use Rattle.number_text.specs.Blocks.{alone, block_item, surplus_block, listed_blocks, blocks_or_built_in, blocks_of};
 
 use crate::block_cocycles::perhaps_cocycle;
 use evidence_core::Block;
@@ -40,10 +40,10 @@ fn surplus_block(lines: &mut Lines) -> Result<Vec<Block>, TextFault>
     Err(TextFault::Limit { line: at })
 }
 
-/// All blocks up to the first line after one that does not begin with `quandle`, of orders of at most `most` where they are by tables.
-fn blocks(alloc: Global, most: usize, lines: &mut Lines) -> Result<Vec<Block>, TextFault>
+/// All blocks, up to the first line that follows a block and does not begin with `quandle`, of orders of at most `most` where they are by tables.
+fn listed_blocks(alloc: Global, most: usize, lines: &mut Lines) -> Result<Vec<Block>, TextFault>
     requires { most ≤ MAX_LARGE_ORDER }
-    ensures { Gives (λ v. (v.items, lines.new)) result (blocks most MAX_QUANDLES lines.old) }
+    ensures { Gives (λ v. (v.items, lines.new)) result (listed_blocks most MAX_QUANDLES lines.old) }
 {
     let mut blocks = Vec::new(alloc);
     for _ in 0..MAX_QUANDLES {
@@ -82,12 +82,15 @@ fn alone(alloc: Global, listed: &Listed) -> Result<Block, TextFault>
     })
 }
 
-/// All blocks, of orders of at most `MAX_LARGE_ORDER` where they are by tables, or the built-in quandles where there are none.
-#[tactic(auto, unfolding(crate::specs::Blocks::block_list))]
-pub(crate) fn block_list(alloc: Global, lines: &mut Lines) -> Result<Items<Block>, TextFault>
-    ensures { Gives (λ b. (b, lines.new)) result (block_list lines.old) }
+/// The listed blocks, of orders of at most `MAX_LARGE_ORDER` where they are by tables, or the built-in quandles where there are none.
+#[tactic(auto, unfolding(crate::specs::Blocks::blocks_or_built_in))]
+pub(crate) fn blocks_or_built_in(
+    alloc: Global,
+    lines: &mut Lines,
+) -> Result<Items<Block>, TextFault>
+    ensures { Gives (λ b. (b, lines.new)) result (blocks_or_built_in lines.old) }
 {
-    let blocks = blocks(alloc, MAX_LARGE_ORDER, lines)?;
+    let blocks = listed_blocks(alloc, MAX_LARGE_ORDER, lines)?;
     if blocks.is_empty() {
         return Ok(Items::from_vec(built_in_blocks(alloc)?));
     }
@@ -103,7 +106,7 @@ pub fn read_blocks(alloc: Global, bytes: &[u8]) -> Result<Items<Block>, TextFaul
     ensures { Gives (λ b. b) result (blocks_of bytes.now) }
 {
     let mut lines = Lines::new(bytes);
-    let blocks = blocks(alloc, MAX_LARGE_ORDER, &mut lines)?;
+    let blocks = listed_blocks(alloc, MAX_LARGE_ORDER, &mut lines)?;
     text_end(&mut lines)?;
     Ok(Items::from_vec(blocks))
 }

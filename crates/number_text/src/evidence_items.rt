@@ -1,7 +1,7 @@
 //! Evidence by numbers, as it is read from the line `certificate 3` on.
 ghost use Rattle.std.specs.Prelude.{◌≡◌};
 ghost use Rattle.text_items.specs.Reading.{Gives};
-ghost use Rattle.number_text.specs.Evidence.{numbers_evidence, linking_evidence, evidence_at, head_at, third_item, count_of};
+ghost use Rattle.number_text.specs.EvidenceItems.{numbers_evidence, linking_evidence, evidence_at, head_at, evidence_item, count_of};
 
 use crate::block_cocycles::perhaps_cocycle;
 use crate::number_lines::{linked_item, seeded_numbers_item};
@@ -27,7 +27,7 @@ pub fn count_of(cocycle: &Option<LargeWeighing>) -> u8
 }
 
 /// A quandle, perhaps a cocycle of it, and the seeds and numbers of two diagrams.
-#[tactic(auto, unfolding(crate::specs::Evidence::numbers_evidence))]
+#[tactic(auto, unfolding(crate::specs::EvidenceItems::numbers_evidence))]
 fn numbers_evidence(
     alloc: Global,
     line: &mut Line,
@@ -48,7 +48,7 @@ fn numbers_evidence(
 }
 
 /// The components and linking numbers of two diagrams.
-#[tactic(auto, unfolding(crate::specs::Evidence::linking_evidence))]
+#[tactic(auto, unfolding(crate::specs::EvidenceItems::linking_evidence))]
 fn linking_evidence(
     alloc: Global,
     line: &mut Line,
@@ -63,7 +63,7 @@ fn linking_evidence(
 }
 
 /// The word `different`, the kind of numbers, and the numbers.
-#[tactic(auto, unfolding(crate::specs::Evidence::evidence_at))]
+#[tactic(auto, unfolding(crate::specs::EvidenceItems::evidence_at))]
 fn evidence_at(alloc: Global, line: &mut Line, lines: &mut Lines) -> Result<Evidence, TextFault>
     ensures { Gives (λ e. (e, lines.new)) result (evidence_at line.old lines.old) }
 {
@@ -81,7 +81,7 @@ fn evidence_at(alloc: Global, line: &mut Line, lines: &mut Lines) -> Result<Evid
 }
 
 /// The line `certificate 3`.
-#[tactic(auto, unfolding(crate::specs::Evidence::head_at))]
+#[tactic(auto, unfolding(crate::specs::EvidenceItems::head_at))]
 fn head_at(line: &mut Line) -> Result<(), TextFault>
     ensures { Gives (λ _. tt) result (head_at line.old) }
 {
@@ -95,9 +95,9 @@ fn head_at(line: &mut Line) -> Result<(), TextFault>
 }
 
 /// The line `certificate 3`, and the evidence by numbers after it. Otherwise the fault of the first bad line, or `OutOfMemory`.
-#[tactic(auto, unfolding(crate::specs::Evidence::third_item))]
-pub fn third_item(alloc: Global, lines: &mut Lines) -> Result<Evidence, TextFault>
-    ensures { Gives (λ e. (e, lines.new)) result (third_item lines.old) }
+#[tactic(auto, unfolding(crate::specs::EvidenceItems::evidence_item))]
+pub fn evidence_item(alloc: Global, lines: &mut Lines) -> Result<Evidence, TextFault>
+    ensures { Gives (λ e. (e, lines.new)) result (evidence_item lines.old) }
 {
     let mut head = next_line(lines)?;
     head_at(&mut head)?;

@@ -14,7 +14,7 @@ mod weighed;
 pub use block_cocycles::perhaps_cocycle;
 pub use blocks::{block_item, read_blocks};
 pub use evidence_core::{Block, Counted, Evidence, LargeWeighing, Linked, SpelledShadow, Spelling};
-pub use evidence_items::{THIRD_VERSION, count_of, third_item};
+pub use evidence_items::{THIRD_VERSION, count_of, evidence_item};
 pub use number_lines::{numbers_line_at, seeds_at};
 pub use numbered::{NumbersText, read_numbers};
 pub use said::{Said, read_said};

@@ -3,7 +3,7 @@ ghost use Rattle.std.specs.Prelude.{◌≡◌};
 ghost use Rattle.std.specs.List.{list_any};
 ghost use Rattle.text_items.specs.Reading.{Gives};
 ghost use Rattle.text_items.specs.Braids.{is_long_letter, letters};
-ghost use Rattle.number_text.specs.Evidence.{seeds_at, numbers_line_at, seeded_numbers_item, components_at, letters_at, linked_item};
+ghost use Rattle.number_text.specs.NumberLines.{seeds_at, numbers_line_at, seeded_numbers_item, components_at, linking_numbers_at, linked_item};
 
 use evidence_core::{Counted, Linked};
 use grid_core::Rows;
@@ -15,7 +15,7 @@ use text_items::{TextFault, any_long, letter, number_list};
 use text_lines::{Line, Lines};
 
 /// The word `numbers`, and `count` numbers. Otherwise the fault of the line, or `OutOfMemory`.
-#[tactic(auto, unfolding(crate::specs::Evidence::numbers_line_at))]
+#[tactic(auto, unfolding(crate::specs::NumberLines::numbers_line_at))]
 pub fn numbers_line_at(alloc: Global, count: u8, line: &mut Line) -> Result<Vec<u32>, TextFault>
     ensures { Gives (λ v. v.items) result (numbers_line_at count line.old) }
 {
@@ -32,7 +32,7 @@ pub fn numbers_line_at(alloc: Global, count: u8, line: &mut Line) -> Result<Vec<
 }
 
 /// The word `seeds`, and at most `MAX_SIZE` numbers; one above 254 is read as 255, which is no column. Otherwise the fault of the line.
-#[tactic(auto, unfolding(crate::specs::Evidence::seeds_at))]
+#[tactic(auto, unfolding(crate::specs::NumberLines::seeds_at))]
 pub fn seeds_at(line: &mut Line) -> Result<Rows, TextFault>
     ensures { Gives (λ r. r) result (seeds_at line.old) }
 {
@@ -40,7 +40,7 @@ pub fn seeds_at(line: &mut Line) -> Result<Rows, TextFault>
 }
 
 /// The seeds of a diagram, and so many numbers of its colourings.
-#[tactic(auto, unfolding(crate::specs::Evidence::seeded_numbers_item))]
+#[tactic(auto, unfolding(crate::specs::NumberLines::seeded_numbers_item))]
 pub(crate) fn seeded_numbers_item(
     alloc: Global,
     count: u8,
@@ -81,10 +81,10 @@ fn any_long_letter(list: &[i64]) -> bool
         .any(|value| value.unsigned_abs() > u64::from(MAX_NUMBER))
 }
 
-/// The word `numbers`, and any number of numbers, negative or not.
-#[tactic(auto, unfolding(crate::specs::Evidence::letters_at))]
-fn letters_at(alloc: Global, line: &mut Line) -> Result<Vec<i64>, TextFault>
-    ensures { Gives (λ v. v.items) result (letters_at line.old) }
+/// Linking numbers: the word `numbers`, and any number of numbers, negative or not.
+#[tactic(auto, unfolding(crate::specs::NumberLines::linking_numbers_at))]
+fn linking_numbers_at(alloc: Global, line: &mut Line) -> Result<Vec<i64>, TextFault>
+    ensures { Gives (λ v. v.items) result (linking_numbers_at line.old) }
 {
     word(line, b"numbers")?;
     let at = line.number();
@@ -96,7 +96,7 @@ fn letters_at(alloc: Global, line: &mut Line) -> Result<Vec<i64>, TextFault>
 }
 
 /// The word `components`, and a number.
-#[tactic(auto, unfolding(crate::specs::Evidence::components_at))]
+#[tactic(auto, unfolding(crate::specs::NumberLines::components_at))]
 fn components_at(line: &mut Line) -> Result<u32, TextFault>
     ensures { Gives (λ n. n) result (components_at line.old) }
 {
@@ -105,14 +105,14 @@ fn components_at(line: &mut Line) -> Result<u32, TextFault>
 }
 
 /// How many components a link has, and its linking numbers.
-#[tactic(auto, unfolding(crate::specs::Evidence::linked_item))]
+#[tactic(auto, unfolding(crate::specs::NumberLines::linked_item))]
 pub(crate) fn linked_item(alloc: Global, lines: &mut Lines) -> Result<Linked, TextFault>
     ensures { Gives (λ l. (l, lines.new)) result (linked_item lines.old) }
 {
     let mut first = next_line(lines)?;
     let components = components_at(&mut first)?;
     let mut second = next_line(lines)?;
-    let numbers = letters_at(alloc, &mut second)?;
+    let numbers = linking_numbers_at(alloc, &mut second)?;
     Ok(Linked {
         components,
         numbers: Items::from_vec(numbers),

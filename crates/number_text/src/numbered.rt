@@ -3,7 +3,7 @@ ghost use Rattle.std.specs.Prelude.{◌≡◌};
 ghost use Rattle.text_items.specs.Reading.{Gives};
 ghost use Rattle.number_text.specs.Numbered.{numbers_of};
 
-use crate::blocks::block_list;
+use crate::blocks::blocks_or_built_in;
 use evidence_core::Block;
 use memory_core::Items;
 use std::alloc::Global;
@@ -30,7 +30,7 @@ pub fn read_numbers(alloc: Global, bytes: &[u8]) -> Result<NumbersText, TextFaul
 {
     let mut lines = Lines::new(bytes);
     let diagram = diagram_item(alloc, &mut lines)?;
-    let blocks = block_list(alloc, &mut lines)?;
+    let blocks = blocks_or_built_in(alloc, &mut lines)?;
     text_end(&mut lines)?;
     Ok(NumbersText { diagram, blocks })
 }

@@ -1,9 +1,9 @@
 //! What `check` reads: a verdict of an earlier version, or evidence by numbers.
 ghost use Rattle.std.specs.Prelude.{◌≡◌};
 ghost use Rattle.text_items.specs.Reading.{Gives};
-ghost use Rattle.number_text.specs.Said.{is_third_line, starts_third, third_behind, verdict_behind, said_of};
+ghost use Rattle.number_text.specs.Said.{is_evidence_head, starts_evidence, evidence_after, verdict_after, said_of};
 
-use crate::evidence_items::third_item;
+use crate::evidence_items::evidence_item;
 use evidence_core::Evidence;
 use std::alloc::Global;
 use text_items::TextFault;
@@ -22,8 +22,8 @@ pub enum Said {
 }
 
 /// Whether a line is `certificate 3`.
-fn is_third_line(line: &mut Line) -> bool
-    ensures { result ≡ is_third_line line.old.tokens }
+fn is_evidence_head(line: &mut Line) -> bool
+    ensures { result ≡ is_evidence_head line.old.tokens }
 {
     let Some(word) = line.next_token() else {
         return false;
@@ -35,37 +35,37 @@ fn is_third_line(line: &mut Line) -> bool
 }
 
 /// Whether the next line is `certificate 3`.
-fn starts_third(lines: &mut Lines) -> bool
-    ensures { result ≡ starts_third lines.old.lines }
+fn starts_evidence(lines: &mut Lines) -> bool
+    ensures { result ≡ starts_evidence lines.old.lines }
 {
     match lines.next_line() {
-        Some(mut line) => is_third_line(&mut line),
+        Some(mut line) => is_evidence_head(&mut line),
         None => false,
     }
 }
 
 /// A problem with evidence by numbers after it, and nothing more.
-#[tactic(auto, unfolding(crate::specs::Said::third_behind))]
-fn third_behind(
+#[tactic(auto, unfolding(crate::specs::Said::evidence_after))]
+fn evidence_after(
     alloc: Global,
     problem: ProblemText,
     lines: &mut Lines,
 ) -> Result<(ProblemText, Said), TextFault>
-    ensures { Gives (λ p. p) result (third_behind problem lines.old) }
+    ensures { Gives (λ p. p) result (evidence_after problem lines.old) }
 {
-    let evidence = third_item(alloc, lines)?;
+    let evidence = evidence_item(alloc, lines)?;
     text_end(lines)?;
     Ok((problem, Said::Evidence(evidence)))
 }
 
 /// A problem with a verdict of an earlier version after it, and nothing more.
-#[tactic(auto, unfolding(crate::specs::Said::verdict_behind))]
-fn verdict_behind(
+#[tactic(auto, unfolding(crate::specs::Said::verdict_after))]
+fn verdict_after(
     alloc: Global,
     problem: ProblemText,
     lines: &mut Lines,
 ) -> Result<(ProblemText, Said), TextFault>
-    ensures { Gives (λ p. p) result (verdict_behind problem lines.old) }
+    ensures { Gives (λ p. p) result (verdict_after problem lines.old) }
 {
     let first = problem.first.columns();
     let second = problem.second.columns();
@@ -74,18 +74,18 @@ fn verdict_behind(
     Ok((problem, Said::Verdict(verdict)))
 }
 
-/// A problem, and what is said of its two diagrams: evidence by numbers if the line `certificate 3` follows the problem, otherwise what
+/// A problem, and what is said of its two diagrams: evidence by numbers if the line `certificate 3` follows the problem, and if not, what
 /// `read_check` of verdict_text reads. Otherwise the fault of the first bad line, or `OutOfMemory`.
-#[tactic(auto, using(crate::proofs::Behind::fails, crate::proofs::Behind::third, crate::proofs::Behind::earlier))]
+#[tactic(auto, using(crate::proofs::Behind::fails, crate::proofs::Behind::evidence, crate::proofs::Behind::earlier))]
 pub fn read_said(alloc: Global, bytes: &[u8]) -> Result<(ProblemText, Said), TextFault>
     ensures { Gives (λ p. p) result (said_of bytes.now) }
 {
     let mut lines = Lines::new(bytes);
     let problem = problem_item(alloc, &mut lines)?;
     let mut ahead = lines.again();
-    if starts_third(&mut ahead) {
-        third_behind(alloc, problem, &mut lines)
+    if starts_evidence(&mut ahead) {
+        evidence_after(alloc, problem, &mut lines)
     } else {
-        verdict_behind(alloc, problem, &mut lines)
+        verdict_after(alloc, problem, &mut lines)
     }
 }

@@ -20,9 +20,8 @@ use Rattle.text_lines.specs.Lines.{NumberedLine}
 use Rattle.text_items.specs.declared.fault.TextFault.TheVariants.{Malformed, Limit}
 use Rattle.text_items.specs.declared.braids.KeptLetters.{KeptLetters}
 use Rattle.text_items.specs.Reading.{Fails, word, number}
-use Rattle.text_items.specs.Braids.{letters, is_long_letter, exceeds, braid_of, braid_at}
-use Rattle.text_items.specs.Kept.{KeepsRead}
-use Rattle.text_items.specs.KeptLetters.{low_letter, TellsLetters, kept_exceeds, refused}
+use Rattle.text_items.specs.Braids.{letters, is_long_letter, exceeds, braid_of, braid_at, low_letter, TellsLetters, kept_exceeds, refused}
+use Rattle.text_items.specs.Numbers.{KeepsRead}
 
 abbrev pub word_of : ℕ → List ℤ → Word
 word_of m ls = record { strands = m; letters = ls }

@@ -9,8 +9,8 @@ use Rattle.text_lines.specs.Lines.{NumberedLine}
 use Rattle.text_items.specs.declared.fault.TextFault.TheVariants.{Malformed, Limit}
 use Rattle.text_items.specs.declared.numbers.Kept.{Kept}
 use Rattle.text_items.specs.Reading.{word}
-use Rattle.text_items.specs.NumberLines.{line_numbers, numbers_behind, numbers_below, is_long}
-use Rattle.text_items.specs.Kept.{low, Tells, KeepsRead, CutsRead, are_kept_below}
+use Rattle.text_items.specs.NumberLists.{line_numbers, is_long}
+use Rattle.text_items.specs.Numbers.{numbers_behind, numbers_below, low, Tells, KeepsRead, CutsRead, are_kept_below}
 
 low_below : (v q : ℕ) → q ≤ 255 → nat_lt (low v) q ≡ nat_lt v q
 low_below v q most = grind (arith, nat_tests)

@@ -17,8 +17,7 @@ use Rattle.grid_core.proofs.Accepted.{accepted_lists}
 use Rattle.grid_core.proofs.OneEach.{each_below}
 use Rattle.text_lines.specs.Lines.{NumberedLine}
 use Rattle.text_items.specs.declared.fault.TextFault.TheVariants.{Malformed}
-use Rattle.text_items.specs.Kept.{low, CutsRead}
-use Rattle.text_items.specs.NumberLines.{numbers_behind}
+use Rattle.text_items.specs.Numbers.{low, CutsRead, numbers_behind}
 use Rattle.text_items.specs.Grids.{is_one_each, are_rows, x_at, o_at}
 use Rattle.text_items.proofs.Cuts.{all_low, same_low}
 

@@ -4,7 +4,7 @@ use Rattle.std.proofs.lemmas.Bool.{lt-ltb, le-ltb}
 use Rattle.std.proofs.lemmas.List.{length-map, length-take, length-append, map-append, take_all, take-append-le}
 use Rattle.std.proofs.lemmas.List.Folds.{list_any-append}
 use Rattle.grid_core.specs.declared.grid.TheConstants.{MAX_SIZE}
-use Rattle.text_items.specs.Kept.{TellsOf}
+use Rattle.text_items.specs.Numbers.{TellsOf}
 
 or_false : (b : Bool) → b ≡ (b || false)
 or_false true = refl

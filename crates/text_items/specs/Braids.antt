@@ -1,4 +1,5 @@
--- A braid as a text: `braid`, the number of strands, and the letters from the lowest crossing to the highest, in one line.
+-- A braid as a text: `braid`, the number of strands, and the letters from the lowest crossing to the highest, in one line; and, for private
+-- clauses, what is kept of the letters.
 use Rattle.std.specs.Prelude.{ℕ, ◌+◌, ◌*◌, ℤ, pos, neg_ℤ, unsigned_abs, ◌==◌, ◌||◌, Bool, List, [], ◌∷◌, codes, Option, None, Result}
 use Rattle.std.specs.Prelude.{Ok, Err, is_none, length, nat_lt, if◌then◌else◌}
 use Rattle.std.specs.Option.{option_map}
@@ -7,12 +8,16 @@ use Rattle.grid_core.specs.declared.grid.TheConstants.{MAX_SIZE}
 use Rattle.braid_core.specs.declared.braid.TheConstants.{MAX_STRANDS}
 use Rattle.braid_core.specs.Braid.{Word}
 use Rattle.braid_core.specs.Fault.{first_word_fault}
+use Rattle.braid_core.specs.declared.fault.BraidFault.{BraidFault}
+use Rattle.braid_core.specs.declared.fault.BraidFault.TheVariants as fault
 use Rattle.text_lines.specs.Lines.{NumberedLine, Text}
 use Rattle.text_lines.specs.NumberTokens.{number_of}
 use Rattle.text_items.specs.declared.fault.TextFault.{TextFault}
-use Rattle.text_items.specs.declared.fault.TextFault.TheVariants.{Malformed, Limit}
+use Rattle.text_items.specs.declared.fault.TextFault.TheVariants.{Malformed, Limit, OutOfMemory}
+use Rattle.text_items.specs.declared.braids.KeptLetters.{KeptLetters}
 use Rattle.text_items.specs.Reading.{◌>>=◌, next_line, word, number, each_token}
-use Rattle.text_items.specs.NumberLines.{is_long}
+use Rattle.text_items.specs.NumberLists.{is_long}
+use Rattle.text_items.specs.Numbers.{TellsOf}
 
 -- a number, or a `-` directly followed by a number
 abbrev pub letter_of : List ℕ → Option ℤ
@@ -55,3 +60,24 @@ braid_item text = do
   line ← next_line text
   braid ← braid_at line.0
   Ok (braid, line.1)
+
+-- ---- what is kept of the letters of a line
+
+-- the letter, or 127 where its absolute value is larger
+abbrev pub low_letter : ℤ → ℤ
+low_letter a = if nat_lt (unsigned_abs a) 127 then a else pos 127
+
+-- what is kept of letters
+abbrev pub TellsLetters : KeptLetters → List ℤ → Type 0
+TellsLetters kept letters = TellsOf low_letter is_long_letter kept.first.items kept.more kept.long letters
+
+-- what was kept exceeds a limit, with so many strands
+abbrev pub kept_exceeds : ℕ → KeptLetters → Bool
+kept_exceeds strands kept = nat_lt MAX_STRANDS strands || (kept.long || (kept.more || nat_lt MAX_SIZE (length kept.first.items + 2 * strands)))
+
+-- the fault of line n, whose word is no braid, or whose letters found no memory
+abbrev pub refused : ℕ → BraidFault → TextFault
+refused n fault.OutOfMemory = OutOfMemory
+refused n fault.Strands = Malformed n
+refused n (fault.Letter place) = Malformed n
+refused n fault.Size = Malformed n

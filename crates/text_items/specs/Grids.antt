@@ -7,7 +7,7 @@ use Rattle.text_lines.specs.Lines.{NumberedLine, Text}
 use Rattle.text_items.specs.declared.fault.TextFault.{TextFault}
 use Rattle.text_items.specs.declared.fault.TextFault.TheVariants.{Malformed}
 use Rattle.text_items.specs.Reading.{◌>>=◌, next_line}
-use Rattle.text_items.specs.NumberLines.{numbers_behind}
+use Rattle.text_items.specs.Numbers.{numbers_behind}
 
 -- each of the n numbers is below n, and none stands twice
 abbrev pub is_one_each : List ℕ → Bool

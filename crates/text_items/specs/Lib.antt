@@ -1,9 +1,8 @@
 pub mod Reading
-pub mod NumberLines
-pub mod Kept
+pub mod NumberLists
+pub mod Numbers
 pub mod Grids
 pub mod Braids
-pub mod KeptLetters
 pub mod Quandles
 pub mod Modulus
 pub use Rattle.text_lines.specs.Lines

@@ -14,7 +14,8 @@ use Rattle.text_items.specs.declared.quandles.Written.TheVariants as written
 use Rattle.quandle_core.specs.Names.{NamedQuandle, called, quandle_named}
 use Rattle.text_items.specs.declared.quandles.TheConstants.{MAX_QUANDLES}
 use Rattle.text_items.specs.Reading.{◌>>=◌, next_line, next_token, line_end, word, number, last_number, or_malformed}
-use Rattle.text_items.specs.NumberLines.{numbers_below, is_long}
+use Rattle.text_items.specs.NumberLists.{is_long}
+use Rattle.text_items.specs.Numbers.{numbers_below}
 
 -- ---- the form of a name, with numbers of any size
 

@@ -1,9 +1,8 @@
 //! Braids, by one line.
 ghost use Rattle.std.specs.Prelude.{◌≡◌, ◌++◌, [], ◌∷◌, ℤ, List};
 ghost use Rattle.text_items.specs.Reading.{Gives};
-ghost use Rattle.text_items.specs.Braids.{letter_of, letters, is_long_letter, braid_at, braid_item};
-ghost use Rattle.text_items.specs.Kept.{KeepsOrFails};
-ghost use Rattle.text_items.specs.KeptLetters.{low_letter, TellsLetters, kept_exceeds, refused};
+ghost use Rattle.text_items.specs.Braids.{letter_of, letters, is_long_letter, braid_at, braid_item, low_letter, TellsLetters, kept_exceeds, refused};
+ghost use Rattle.text_items.specs.Numbers.{KeepsOrFails};
 
 use crate::fault::TextFault;
 use crate::reading::{MAX_NUMBER, next_line, number, word};

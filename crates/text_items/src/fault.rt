@@ -8,7 +8,7 @@ use std::alloc::{AllocError, AllocFailed};
 ///
 /// Lines are counted from 1. Each line is tried first for its form, then for its limits, then for its content, and the
 /// first line that fails decides. Where the text ends and something is still due, the line is the number of lines plus one.
-#[derive(Clone, Copy, Debug, PartialEq, Eq)]
+#[derive(Clone, Copy, PartialEq, Eq)]
 pub enum TextFault {
     /// This line doesn't have the form of what is due there, or says what can't be, or follows the end.
     Malformed { line: usize },

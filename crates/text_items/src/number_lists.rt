@@ -2,7 +2,7 @@
 ghost use Rattle.std.specs.Prelude.{◌≡◌};
 ghost use Rattle.std.specs.List.{list_any};
 ghost use Rattle.text_items.specs.Reading.{Gives};
-ghost use Rattle.text_items.specs.NumberLines.{is_long, line_numbers};
+ghost use Rattle.text_items.specs.NumberLists.{is_long, line_numbers};
 
 use crate::fault::TextFault;
 use crate::reading::MAX_NUMBER;

@@ -1,11 +1,11 @@
-//! Lines of numbers.
+//! Lines of at most `MAX_SIZE` numbers, kept in place.
 ghost use Rattle.std.specs.Prelude.{◌≡◌, ◌≤◌, ◌==◌, ◌&&◌, ◌++◌, [], ◌∷◌, ℕ, List, length, nat_lt, IfOk};
 ghost use Rattle.arrayvec.specs.ArrayVec.{array_vec_len};
 ghost use Rattle.std.specs.List.{list_all};
 ghost use Rattle.grid_core.specs.declared.grid.TheConstants.{MAX_SIZE};
 ghost use Rattle.text_items.specs.Reading.{Gives};
-ghost use Rattle.text_items.specs.NumberLines.{line_numbers, numbers_behind, numbers_below};
-ghost use Rattle.text_items.specs.Kept.{low, Tells, KeepsOrFails, CutsOrFails, are_kept_below};
+ghost use Rattle.text_items.specs.NumberLists.{line_numbers};
+ghost use Rattle.text_items.specs.Numbers.{numbers_behind, numbers_below, low, Tells, KeepsOrFails, CutsOrFails, are_kept_below};
 
 use crate::fault::TextFault;
 use crate::reading::{MAX_NUMBER, word};
@@ -62,14 +62,14 @@ fn keep(kept: &mut Kept, value: u32)
 }
 
 /// The number, or 255 where it is larger.
-pub fn low(value: u32) -> u8
+pub(crate) fn low(value: u32) -> u8
     ensures { result ≡ low value }
 {
     if value < 255 { value as u8 } else { 255 }
 }
 
 /// A word and at most `MAX_SIZE` numbers, each cut down to at most 255. Otherwise the fault of the line.
-#[tactic(auto, unfolding(crate::specs::NumberLines::numbers_behind))]
+#[tactic(auto, unfolding(crate::specs::Numbers::numbers_behind))]
 pub fn numbers_behind(expected: &[u8], line: &mut Line) -> Result<Rows, TextFault>
     ensures { CutsOrFails result (numbers_behind expected.now line.old) }
 {
@@ -83,7 +83,7 @@ pub fn numbers_behind(expected: &[u8], line: &mut Line) -> Result<Rows, TextFaul
 }
 
 /// `width` numbers below the order, which is at most 255, in place. `number_row` of `rows` gives them on the heap, however many.
-#[tactic(auto, unfolding(crate::specs::NumberLines::numbers_below))]
+#[tactic(auto, unfolding(crate::specs::Numbers::numbers_below))]
 pub fn numbers_below(width: u8, order: u8, line: &mut Line) -> Result<Rows, TextFault>
     requires { width ≤ MAX_SIZE }
     ensures numbers { Gives (λ r. r.items) result (numbers_below width order line.old) }

@@ -18,7 +18,7 @@ use text_lines::{Line, Lines};
 pub const MAX_QUANDLES: usize = 64;
 
 /// The name of a quandle as it is written, with numbers of any size.
-#[derive(Clone, Copy, Debug, PartialEq, Eq)]
+#[derive(Clone, Copy, PartialEq, Eq)]
 pub enum Written {
     Trivial(u32),
     Dihedral(u32),

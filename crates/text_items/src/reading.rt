@@ -14,7 +14,7 @@ pub const MAX_PLACE: u32 = u8::MAX as u32;
 /// The greatest absolute value of a letter of a step line.
 pub const MAX_LETTER: u64 = i8::MAX as u64;
 
-/// The line that is due, or the fault that the text ends.
+/// The line that is due. `Malformed`, at the line after the text, if there is none.
 #[tactic(auto, unfolding(crate::specs::Reading::next_line))]
 pub fn next_line<'a>(lines: &mut Lines<'a>) -> Result<Line<'a>, TextFault>
     ensures { Gives (λ l. (l, lines.new)) result (next_line lines.old) }
@@ -27,7 +27,7 @@ pub fn next_line<'a>(lines: &mut Lines<'a>) -> Result<Line<'a>, TextFault>
     }
 }
 
-/// The end of a text: no line is left.
+/// The end of a text. `Malformed` if a line is left.
 #[tactic(auto, unfolding(crate::specs::Reading::text_end))]
 pub fn text_end(lines: &mut Lines) -> Result<(), TextFault>
     ensures { Gives (λ _. tt) result (text_end lines.old) }
@@ -40,7 +40,7 @@ pub fn text_end(lines: &mut Lines) -> Result<(), TextFault>
     }
 }
 
-/// The token that is due, or the fault that the line ends.
+/// The token that is due. `Malformed` if the line ends.
 #[tactic(auto, unfolding(crate::specs::Reading::next_token))]
 pub fn next_token<'a>(line: &mut Line<'a>) -> Result<&'a [u8], TextFault>
     ensures { Gives (λ t. (t.now, line.new)) result (next_token line.old) }
@@ -53,7 +53,7 @@ pub fn next_token<'a>(line: &mut Line<'a>) -> Result<&'a [u8], TextFault>
     }
 }
 
-/// The end of a line: no token is left.
+/// The end of a line. `Malformed` if a token is left.
 #[tactic(auto, unfolding(crate::specs::Reading::line_end))]
 pub fn line_end(line: &mut Line) -> Result<(), TextFault>
     ensures { Gives (λ _. line.new) result (line_end line.old) }
@@ -66,7 +66,7 @@ pub fn line_end(line: &mut Line) -> Result<(), TextFault>
     }
 }
 
-/// The token that is due, which must be this word.
+/// The token that is due, which must be this word. Otherwise `Malformed`.
 #[tactic(auto, unfolding(crate::specs::Reading::word))]
 pub fn word(line: &mut Line, expected: &[u8]) -> Result<(), TextFault>
     ensures { Gives (λ _. line.new) result (word expected.now line.old) }
@@ -79,7 +79,7 @@ pub fn word(line: &mut Line, expected: &[u8]) -> Result<(), TextFault>
     Ok(())
 }
 
-/// A number of any size.
+/// A number of any size: `OVERLONG` of text_lines if it has too many digits. `Malformed` if no number is next.
 #[tactic(auto, unfolding(crate::specs::Reading::number))]
 pub fn number(line: &mut Line) -> Result<u32, TextFault>
     ensures { Gives (λ n. (n, line.new)) result (number line.old) }
@@ -92,7 +92,7 @@ pub fn number(line: &mut Line) -> Result<u32, TextFault>
     }
 }
 
-/// A number of any size, and no token after it.
+/// A number of any size, as `number` reads it, and no token after it. Otherwise `Malformed`.
 #[tactic(auto, unfolding(crate::specs::Reading::last_number))]
 pub fn last_number(line: &mut Line) -> Result<u32, TextFault>
     ensures { Gives (λ n. (n, line.new)) result (last_number line.old) }
@@ -102,7 +102,7 @@ pub fn last_number(line: &mut Line) -> Result<u32, TextFault>
     Ok(value)
 }
 
-/// A number of a line, which exceeds a limit where it is above the most.
+/// A number of a line. `Limit` if it is above `most`.
 pub fn at_most(most: u32, line: &Line, value: u32) -> Result<u32, TextFault>
     ensures { Gives (λ n. n) result (at_most most line.now.number value) }
 {
@@ -115,7 +115,7 @@ pub fn at_most(most: u32, line: &Line, value: u32) -> Result<u32, TextFault>
     }
 }
 
-/// A place of a move.
+/// A place of a move. `Limit` if it is above `MAX_PLACE`.
 pub fn place(line: &Line, value: u32) -> Result<u8, TextFault>
     ensures { Gives (λ n. n) result (at_most MAX_PLACE line.now.number value) }
 {
@@ -123,7 +123,7 @@ pub fn place(line: &Line, value: u32) -> Result<u8, TextFault>
     Ok(value as u8)
 }
 
-/// A number of lines, which ends its line.
+/// A number of lines, which ends its line. `Limit` if it is above `MAX_NUMBER`; `Malformed` if the line has another form.
 #[tactic(auto, unfolding(crate::specs::Reading::last_count))]
 pub fn last_count(line: &mut Line) -> Result<u32, TextFault>
     ensures { Gives (λ n. n) result (last_count line.old) }

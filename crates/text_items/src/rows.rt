@@ -1,8 +1,7 @@
 //! Rows of numbers, read onto the heap.
 ghost use Rattle.std.specs.Prelude.{◌≡◌, ◌≤◌, ◌-◌, ◌==◌, length, map, IfOk};
 ghost use Rattle.text_items.specs.Reading.{Gives};
-ghost use Rattle.text_items.specs.NumberLines.{numbers_below};
-ghost use Rattle.text_items.specs.Kept.{low};
+ghost use Rattle.text_items.specs.Numbers.{numbers_below, low};
 ghost use Rattle.text_items.specs.Quandles.{table_row, table_rows};
 
 use crate::fault::TextFault;
@@ -13,7 +12,7 @@ use std::alloc::{AllocFailed, Global};
 use text_lines::{Line, Lines};
 
 /// A row of `width` numbers below a bound, which is at most 255, on the heap. Otherwise the fault of the line, or `OutOfMemory`.
-#[tactic(auto, unfolding(crate::specs::NumberLines::numbers_below))]
+#[tactic(auto, unfolding(crate::specs::Numbers::numbers_below))]
 pub fn number_row(
     alloc: Global,
     width: u8,

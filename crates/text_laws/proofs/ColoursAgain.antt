@@ -12,7 +12,7 @@ use Rattle.quandle_core.specs.declared.quandle.TheConstants.{MAX_ORDER}
 use Rattle.text_lines.specs.Lines.{Text}
 use Rattle.text_lines.specs.Spelled.{numbered}
 use Rattle.text_items.specs.Reading.{next_line}
-use Rattle.text_items.specs.NumberLines.{numbers_behind}
+use Rattle.text_items.specs.Numbers.{numbers_behind}
 use Rattle.knot_text.specs.Colours.{colours_at, colours_item}
 use Rattle.knot_text.specs.Printed.{colours_lines}
 use Rattle.knot_text.proofs.StepsAgain.{line_of, lines_before, IsShort, word_again, values_again, none_long, all_short}

@@ -8,7 +8,7 @@ use Rattle.text_items.specs.declared.fault.TextFault.TheVariants.{Malformed}
 use Rattle.knot_text.specs.declared.shapes.ReplayText.{ReplayText}
 use Rattle.quandle_core.specs.Names.{NamedQuandle}
 use Rattle.text_items.specs.Reading.{◌>>=◌, next_line, text_end}
-use Rattle.text_items.specs.NumberLines.{numbers_behind}
+use Rattle.text_items.specs.Numbers.{numbers_behind}
 use Rattle.verdict_text.specs.Moves.{moves_item}
 use Rattle.text_items.specs.Quandles.{quandle_item}
 use Rattle.knot_text.specs.Colours.{colours_at, colours_item, coloured_item, some_coloured, coloured}

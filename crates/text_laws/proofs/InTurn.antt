@@ -16,7 +16,7 @@ use Rattle.quandle_core.specs.Names.{called}
 use Rattle.text_items.specs.declared.fault.TextFault.{TextFault}
 use Rattle.text_items.specs.declared.fault.TextFault.TheVariants.{Malformed}
 use Rattle.text_items.specs.Reading.{◌>>=◌, in_turn, next_line}
-use Rattle.text_items.specs.NumberLines.{numbers_below}
+use Rattle.text_items.specs.Numbers.{numbers_below}
 use Rattle.verdict_text.specs.Moves.{move_at, next_move, move_lines, tidy_move_at, tidy_move, tidy_moves}
 use Rattle.knot_text.specs.Printed.{move_tokens}
 use Rattle.knot_text.specs.BraidSteps.{step_at, braid_step_item, step_lines}

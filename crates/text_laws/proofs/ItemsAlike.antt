@@ -21,7 +21,8 @@ use Rattle.text_items.specs.declared.quandles.TheConstants.{MAX_QUANDLES}
 use Rattle.text_items.specs.declared.quandles.Written.{Written}
 use Rattle.text_items.specs.declared.quandles.Written.TheVariants as written
 use Rattle.text_items.specs.Reading.{◌>>=◌, next_token, line_end, word, or_malformed, number, last_number, last_count, at_most, each_token, in_turn}
-use Rattle.text_items.specs.NumberLines.{is_long, numbers_behind, numbers_below}
+use Rattle.text_items.specs.NumberLists.{is_long}
+use Rattle.text_items.specs.Numbers.{numbers_behind, numbers_below}
 use Rattle.text_items.specs.Grids.{are_rows, x_at, o_at, grid_item}
 use Rattle.text_items.specs.Braids.{letter_of, exceeds, braid_of, braid_at, braid_item}
 use Rattle.verdict_text.specs.Moves.{last_place, one_place, shift, exchange, slide, kind_at, corner_at, stabilise, destabilise, move_at, next_move, moves_item}

@@ -14,7 +14,7 @@ use Rattle.quandle_core.specs.declared.names.QuandleName.TheVariants as name
 use Rattle.verdict_core.specs.declared.verdict.Verdict.TheVariants.{Equal, Different, UnknownBudget, UnknownExhausted}
 use Rattle.quandle_core.specs.Names.{called}
 use Rattle.text_items.specs.Reading.{next_line, next_token, line_end, word, number, last_number, last_count, in_turn, each_token}
-use Rattle.text_items.specs.NumberLines.{numbers_behind}
+use Rattle.text_items.specs.Numbers.{numbers_behind}
 use Rattle.text_items.specs.Grids.{x_at, o_at, grid_item}
 use Rattle.verdict_text.specs.Moves.{kind_at, corner_at, stabilise, exchange, move_at, next_move, moves_item}
 use Rattle.verdict_text.specs.Diagrams.{diagram_item}

@@ -23,7 +23,7 @@ pub use Rattle.crossing_codes.specs.EdgeColouring
 pub use Rattle.crossing_codes.specs.CodeColouring
 pub use Rattle.next_moves.specs.Tries
 pub use Rattle.text_items.specs.Reading
-pub use Rattle.text_items.specs.NumberLines
+pub use Rattle.text_items.specs.Numbers
 pub use Rattle.text_items.specs.Grids
 pub use Rattle.text_items.specs.Braids
 pub use Rattle.verdict_text.specs.Moves

@@ -18,7 +18,7 @@ ghost use Rattle.text_lines.specs.Spelled.{lines_text};
 ghost use Rattle.verdict_core.specs.declared.diagrams.Diagram.TheVariants as diagram;
 ghost use Rattle.quandle_core.specs.Names.{NamedQuandle};
 ghost use Rattle.text_items.specs.Quandles.{built_in};
-ghost use Rattle.text_items.specs.NumberLines.{numbers_below};
+ghost use Rattle.text_items.specs.Numbers.{numbers_below};
 ghost use Rattle.text_items.specs.Grids.{are_rows, x_at, o_at, grid_item};
 ghost use Rattle.text_items.specs.Braids.{braid_at, braid_item};
 ghost use Rattle.verdict_text.specs.Moves.{move_at, move_lines, tidy_moves, moves_item};

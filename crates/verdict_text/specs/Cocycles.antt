@@ -8,7 +8,7 @@ use Rattle.text_items.specs.declared.fault.TextFault.{TextFault}
 use Rattle.text_items.specs.declared.fault.TextFault.TheVariants.{Malformed}
 use Rattle.text_items.specs.Reading.{◌>>=◌, next_line}
 use Rattle.text_items.specs.Modulus.{modulus_at}
-use Rattle.text_items.specs.NumberLines.{numbers_below}
+use Rattle.text_items.specs.Numbers.{numbers_below}
 use Rattle.text_items.specs.Quandles.{table_rows}
 
 -- the numbers of a table, whether or not they have the laws of a cocycle

@@ -15,7 +15,7 @@ use Rattle.verdict_text.specs.declared.verdicts.TheConstants.{TIDY_VERSION}
 use Rattle.verdict_text.specs.declared.verdicts.Version.{Version}
 use Rattle.verdict_text.specs.declared.verdicts.Version.TheVariants.{Plain, Tidy}
 use Rattle.text_items.specs.Reading.{◌>>=◌, in_turn, next_line, next_token, word, number, last_number, last_count, at_most}
-use Rattle.text_items.specs.NumberLines.{numbers_below}
+use Rattle.text_items.specs.Numbers.{numbers_below}
 use Rattle.verdict_text.specs.Moves.{move_lines, tidy_moves}
 use Rattle.text_items.specs.Quandles.{quandle_at}
 

@@ -22,6 +22,15 @@ pub fn last_place(line: &mut Line) -> Result<u8, TextFault>
     place(line, value)
 }
 
+/// The fault of a line that has not the form of what is due there.
+pub(crate) fn malformed(line: &Line) -> TextFault
+    ensures { result ≡ TextFault.Malformed line.now.number }
+{
+    TextFault::Malformed {
+        line: line.number(),
+    }
+}
+
 /// Columns or rows, after `shift`.
 #[tactic(auto, unfolding(crate::specs::Moves::shift))]
 fn shift(line: &mut Line) -> Result<Move, TextFault>
@@ -33,9 +42,7 @@ fn shift(line: &mut Line) -> Result<Move, TextFault>
     } else if axis == b"rows".as_slice() {
         Ok(Move::ShiftRows(last_place(line)?))
     } else {
-        Err(TextFault::Malformed {
-            line: line.number(),
-        })
+        Err(malformed(line))
     }
 }
 
@@ -50,9 +57,7 @@ fn exchange(line: &mut Line) -> Result<Move, TextFault>
     } else if axis == b"rows".as_slice() {
         Ok(Move::ExchangeRows(last_place(line)?))
     } else {
-        Err(TextFault::Malformed {
-            line: line.number(),
-        })
+        Err(malformed(line))
     }
 }
 
@@ -67,9 +72,7 @@ fn slide(line: &mut Line) -> Result<Move, TextFault>
     } else if axis == b"rows".as_slice() {
         Ok(Move::SlideRows(last_place(line)?))
     } else {
-        Err(TextFault::Malformed {
-            line: line.number(),
-        })
+        Err(malformed(line))
     }
 }
 
@@ -84,9 +87,7 @@ fn kind_at(line: &mut Line) -> Result<Kind, TextFault>
     } else if name == b"o".as_slice() {
         Ok(Kind::Ring)
     } else {
-        Err(TextFault::Malformed {
-            line: line.number(),
-        })
+        Err(malformed(line))
     }
 }
 
@@ -105,9 +106,7 @@ fn corner_at(line: &mut Line) -> Result<Corner, TextFault>
     } else if name == b"highright".as_slice() {
         Ok(Corner::HighRight)
     } else {
-        Err(TextFault::Malformed {
-            line: line.number(),
-        })
+        Err(malformed(line))
     }
 }
 
@@ -157,9 +156,7 @@ fn move_at(line: &mut Line) -> Result<Move, TextFault>
     } else if name == b"destabilise".as_slice() {
         destabilise(line)
     } else {
-        Err(TextFault::Malformed {
-            line: line.number(),
-        })
+        Err(malformed(line))
     }
 }
 

@@ -1,11 +1,11 @@
-//! Verdicts are read: of either version, up to their last line.
+//! Verdicts of either version, up to their last line.
 ghost use Rattle.std.specs.Prelude.{◌≡◌, ◌≤◌};
 ghost use Rattle.grid_core.specs.declared.grid.TheConstants.{MAX_SIZE};
 ghost use Rattle.text_items.specs.Reading.{Gives, in_turn};
 ghost use Rattle.verdict_text.specs.Verdicts.{moves_of, equal_at, colour_line, list_item, different_at, budget_at, exhausted_at, unknown_at};
 ghost use Rattle.verdict_text.specs.Verdicts.{unknown_item, verdict_at, verdict_of, version_at, tidy_item, plain_item, versioned_item, verdict_item};
 
-use crate::moves::{move_lines, tidy_moves};
+use crate::moves::{malformed, move_lines, tidy_moves};
 use colour_list::MAX_COLOURINGS;
 use colour_rows::Colouring;
 use grid_moves::Move;
@@ -23,7 +23,7 @@ use verdict_core::Verdict;
 pub const TIDY_VERSION: u32 = 2;
 
 /// The two texts that a verdict has.
-#[derive(Clone, Copy, Debug, PartialEq, Eq)]
+#[derive(Clone, Copy, PartialEq, Eq)]
 pub enum Version {
     /// Without a head line: it may have any list of moves.
     Plain,
@@ -158,15 +158,6 @@ fn exhausted_at(line: &mut Line) -> Result<Verdict, TextFault>
         cap: at_most(MAX_NUMBER, line, cap)?,
         admitted: at_most(MAX_NUMBER, line, admitted)?,
     })
-}
-
-/// The fault of a line that has not the form of what is due there.
-fn malformed(line: &Line) -> TextFault
-    ensures { result ≡ TextFault.Malformed line.now.number }
-{
-    TextFault::Malformed {
-        line: line.number(),
-    }
 }
 
 /// Why a search said nothing.

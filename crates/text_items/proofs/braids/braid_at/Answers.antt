@@ -4,8 +4,7 @@ use Rattle.braid_core.specs.Fault.{first_word_fault}
 use Rattle.braid_core.specs.declared.fault.BraidFault.TheVariants.{OutOfMemory}
 use Rattle.text_items.specs.declared.fault.TextFault.{TextFault}
 use Rattle.text_items.specs.Reading.{Fails}
-use Rattle.text_items.specs.Braids.{braid_at}
-use Rattle.text_items.specs.KeptLetters.{refused}
+use Rattle.text_items.specs.Braids.{braid_at, refused}
 use Rattle.text_items.proofs.BraidLines.{word_of, IsRead, braid_good, braid_refused, braid_over}
 use Rattle.text_items.proofs.braids.braid_at.Goals as goal
 use Rattle.text_items.specs.declared.fault.TextFault.TheVariants.{Limit}

@@ -1,7 +1,6 @@
 use Rattle.std.proofs.Common.{◌≡◌, ◌<◌, ◌≤◌, ◌||◌, ◌++◌, [], ◌∷◌, length, refl, arith, rules}
 use Rattle.grid_core.specs.declared.grid.TheConstants.{MAX_SIZE}
-use Rattle.text_items.specs.Braids.{is_long_letter}
-use Rattle.text_items.specs.KeptLetters.{low_letter}
+use Rattle.text_items.specs.Braids.{is_long_letter, low_letter}
 use Rattle.text_items.proofs.Keeping.{one_more, one_too_many}
 use Rattle.text_items.proofs.braids.keep.Goals as goal
 use Rattle.text_items.proofs.braids.keep.Goals.{then-kept, else-kept}

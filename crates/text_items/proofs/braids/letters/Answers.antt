@@ -1,8 +1,7 @@
 use Rattle.std.proofs.Common.{◌≡◌, ℤ, List, [], ◌∷◌, ◌++◌, Some, None, Err, ap, sym, ◌∙◌, rules}
 use Rattle.text_lines.specs.Lines.{NumberedLine}
 use Rattle.text_items.specs.declared.fault.TextFault.TheVariants.{Malformed}
-use Rattle.text_items.specs.Braids.{letter_of, letters}
-use Rattle.text_items.specs.KeptLetters.{TellsLetters}
+use Rattle.text_items.specs.Braids.{letter_of, letters, TellsLetters}
 use Rattle.text_items.proofs.Values.{value_more, value_fails, values_done}
 use Rattle.text_items.proofs.braids.letters.Goals as goal
 

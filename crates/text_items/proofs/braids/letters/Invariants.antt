@@ -1,6 +1,5 @@
 use Rattle.std.proofs.Common.{length}
-use Rattle.text_items.specs.Braids.{letter_of, letters}
-use Rattle.text_items.specs.KeptLetters.{TellsLetters}
+use Rattle.text_items.specs.Braids.{letter_of, letters, TellsLetters}
 use Rattle.text_items.proofs.Values.{GoesOn}
 use Rattle.text_items.proofs.braids.letters.Given as goal
 

@@ -2,7 +2,7 @@ use Rattle.std.proofs.Common.{◌≡◌, ◌∷◌, [], ◌++◌, ℕ, List, Som
 use Rattle.text_lines.specs.Lines.{NumberedLine}
 use Rattle.text_lines.specs.NumberTokens.{number_of}
 use Rattle.text_items.specs.declared.fault.TextFault.TheVariants.{Malformed}
-use Rattle.text_items.specs.NumberLines.{line_numbers}
+use Rattle.text_items.specs.NumberLists.{line_numbers}
 use Rattle.text_items.proofs.Values.{value_more, value_fails, values_done}
 use Rattle.text_items.proofs.number_lists.number_list.Goals as goal
 

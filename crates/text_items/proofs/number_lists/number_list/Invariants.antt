@@ -1,6 +1,6 @@
 use Rattle.std.proofs.Common.{◌≡◌, ℕ, List, length}
 use Rattle.text_lines.specs.NumberTokens.{number_of}
-use Rattle.text_items.specs.NumberLines.{line_numbers}
+use Rattle.text_items.specs.NumberLists.{line_numbers}
 use Rattle.text_items.proofs.Values.{GoesOn}
 use Rattle.text_items.proofs.number_lists.number_list.Given as goal
 

@@ -1,7 +1,7 @@
 use Rattle.std.proofs.Common.{◌≡◌, ◌<◌, ◌≤◌, ◌||◌, ◌++◌, [], ◌∷◌, length, refl, arith, rules}
 use Rattle.grid_core.specs.declared.grid.TheConstants.{MAX_SIZE}
-use Rattle.text_items.specs.NumberLines.{is_long}
-use Rattle.text_items.specs.Kept.{low}
+use Rattle.text_items.specs.NumberLists.{is_long}
+use Rattle.text_items.specs.Numbers.{low}
 use Rattle.text_items.proofs.Keeping.{one_more, one_too_many}
 use Rattle.text_items.proofs.numbers.keep.Goals as goal
 use Rattle.text_items.proofs.numbers.keep.Goals.{then-kept, else-kept}

@@ -2,8 +2,8 @@ use Rattle.std.proofs.Common.{◌≡◌, Some, None, Err, ap, sym, ◌∙◌}
 use Rattle.text_lines.specs.Lines.{NumberedLine}
 use Rattle.text_lines.specs.NumberTokens.{number_of}
 use Rattle.text_items.specs.declared.fault.TextFault.TheVariants.{Malformed}
-use Rattle.text_items.specs.NumberLines.{line_numbers}
-use Rattle.text_items.specs.Kept.{Tells}
+use Rattle.text_items.specs.NumberLists.{line_numbers}
+use Rattle.text_items.specs.Numbers.{Tells}
 use Rattle.text_items.proofs.Values.{value_more, value_fails, values_done}
 use Rattle.text_items.proofs.numbers.numbers.Goals as goal
 

@@ -1,7 +1,7 @@
 use Rattle.std.proofs.Common.{length}
 use Rattle.text_lines.specs.NumberTokens.{number_of}
-use Rattle.text_items.specs.NumberLines.{line_numbers}
-use Rattle.text_items.specs.Kept.{Tells}
+use Rattle.text_items.specs.NumberLists.{line_numbers}
+use Rattle.text_items.specs.Numbers.{Tells}
 use Rattle.text_items.proofs.Values.{GoesOn}
 use Rattle.text_items.proofs.numbers.numbers.Given as goal
 

@@ -1,5 +1,5 @@
 use Rattle.std.proofs.Common.{◌≡◌, take, map}
-use Rattle.text_items.specs.Kept.{low}
+use Rattle.text_items.specs.Numbers.{low}
 use Rattle.text_items.proofs.rows.narrowed.Given as goal
 
 abbrev pub invariant-loop-value : goal.invariant-loop-value

@@ -1,8 +1,8 @@
 use Rattle.std.proofs.Common.{◌≡◌, ◌==◌, ◌&&◌, ◌∙◌, ℕ, List, true, false, length, map, Err, sym, ap, arith, nat_lt}
 use Rattle.std.specs.List.{list_all, list_any}
 use Rattle.text_items.specs.declared.fault.TextFault.TheVariants.{Malformed}
-use Rattle.text_items.specs.NumberLines.{is_long}
-use Rattle.text_items.specs.Kept.{low}
+use Rattle.text_items.specs.NumberLists.{is_long}
+use Rattle.text_items.specs.Numbers.{low}
 use Rattle.text_items.proofs.Cuts.{width_bad, row_bad, row_good}
 use Rattle.text_items.proofs.rows.number_row.Goals as goal
 

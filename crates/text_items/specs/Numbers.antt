@@ -1,12 +1,31 @@
--- What is kept of the numbers, or of the letters, of a line, for private clauses alone.
-use Rattle.std.specs.Prelude.{◌≡◌, ℕ, ◌==◌, ◌&&◌, Bool, not, List, length, take, map, Result, Ok, Err, nat_lt, if◌then◌else◌}
+-- A word and numbers behind it, and so many numbers below an order; and, for private clauses, what is kept of the numbers of a line.
+use Rattle.std.specs.Prelude.{◌≡◌, ℕ, ◌==◌, ◌&&◌, ◌||◌, Bool, not, List, length, take, map, Result, Ok, Err, nat_lt, if◌then◌else◌}
 use Rattle.std.specs.List.{list_all, list_any}
 use Rattle.arrayvec.specs.ArrayVec.{ArrayVec}
 use Rattle.grid_core.specs.declared.grid.TheConstants.{MAX_SIZE}
+use Rattle.text_lines.specs.Lines.{NumberedLine}
 use Rattle.text_items.specs.declared.fault.TextFault.{TextFault}
+use Rattle.text_items.specs.declared.fault.TextFault.TheVariants.{Malformed, Limit}
 use Rattle.text_items.specs.declared.numbers.Kept.{Kept}
-use Rattle.text_items.specs.Reading.{Fails}
-use Rattle.text_items.specs.NumberLines.{is_long}
+use Rattle.text_items.specs.Reading.{◌>>=◌, Fails, word}
+use Rattle.text_items.specs.NumberLists.{line_numbers, is_long}
+
+-- a word, and at most MAX_SIZE numbers
+unfoldable pub numbers_behind : List ℕ → NumberedLine → Result (List ℕ) TextFault
+numbers_behind expected line = do
+  rest ← word expected line
+  values ← line_numbers rest
+  if nat_lt MAX_SIZE (length values) || list_any is_long values then Err (Limit rest.number) else Ok values
+
+-- so many numbers below the order: first their form, then their digits, then how many and how large they are
+unfoldable pub numbers_below : ℕ → ℕ → NumberedLine → Result (List ℕ) TextFault
+numbers_below width order line = do
+  values ← line_numbers line
+  if list_any is_long values then Err (Limit line.number)
+      else if (length values == width) && list_all (λ v. nat_lt v order) values then Ok values
+      else Err (Malformed line.number)
+
+-- ---- what is kept of the numbers of a line
 
 -- the first MAX_SIZE of these values, cut down; whether there are more; and whether one has too many digits
 pub record TellsOf {A B : Type 0} (cut : A → B) (has_many_digits : A → Bool) (kept : List B) (has_more has_long : Bool) (values : List A) : Type 0 where
