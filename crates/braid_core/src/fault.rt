@@ -6,7 +6,7 @@ ghost use Rattle.braid_core.specs.Fault.{is_outside_strands};
 use std::alloc::AllocError;
 
 /// Why a number of strands and a list of letters are no braid: the first of these that holds.
-#[derive(Clone, Copy, Debug, PartialEq, Eq)]
+#[derive(Clone, Copy, PartialEq, Eq)]
 pub enum BraidFault {
     /// There are no strands, or more than `MAX_STRANDS`.
     Strands,

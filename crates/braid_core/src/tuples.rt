@@ -18,7 +18,7 @@ pub const MAX_TUPLES: usize = 65536;
 pub type Tuple = SmallVec<u8, MAX_STRANDS>;
 
 /// Why there is no list of fixed points.
-#[derive(Clone, Copy, Debug, PartialEq, Eq)]
+#[derive(Clone, Copy, PartialEq, Eq)]
 pub enum FixFault {
     /// The order to the power of the number of strands is over `MAX_TUPLES`.
     TooWide { strands: u8 },

@@ -9,7 +9,7 @@ use memory_core::OutOfMemory;
 use std::alloc::Global;
 
 /// What a list of steps from one braid to another is worth.
-#[derive(Clone, Copy, Debug, PartialEq, Eq)]
+#[derive(Clone, Copy, PartialEq, Eq)]
 pub enum BraidRuling {
     /// Each step is legal and they lead from the first braid to the second.
     Accepted,

@@ -3,7 +3,7 @@
 /// A step from a braid of m strands and l letters to another: a relation of Artin (1947), a conjugation, or a move of Markov (1936).
 ///
 /// Letters are counted from 0 and run from the lowest crossing to the highest. `apply_braid` refuses a step that is not legal.
-#[derive(Clone, Copy, Debug, PartialEq, Eq)]
+#[derive(Clone, Copy, PartialEq, Eq)]
 pub enum BraidMove {
     /// Letters p and p + 1, whose absolute values differ by 2 or more, trade places (Artin 1947).
     Far(u8),
@@ -23,7 +23,7 @@ pub enum BraidMove {
 }
 
 /// Why a step is not legal on a braid of m strands and l letters: the first of these that holds.
-#[derive(Clone, Copy, Debug, PartialEq, Eq)]
+#[derive(Clone, Copy, PartialEq, Eq)]
 pub enum BraidMoveFault {
     /// A letter p, p + 1 or p + 2 that is not there, a place after the end, an inserted letter that is 0 or whose absolute value is not below m, or a
     /// turn by 0 or by l or more.

@@ -3,7 +3,7 @@
 use grid_moves::MoveFault;
 
 /// The answer of the checker.
-#[derive(Clone, Copy, Debug, PartialEq, Eq)]
+#[derive(Clone, Copy, PartialEq, Eq)]
 pub enum Ruling {
     /// The evidence holds.
     Accepted,
@@ -13,7 +13,7 @@ pub enum Ruling {
 
 /// Why evidence does not hold: `Step` or `OtherEnd` for moves, and for lists of colourings the first of `Wide`, `List` and
 /// `SameLength` that holds, the first diagram before the second.
-#[derive(Clone, Copy, Debug, PartialEq, Eq)]
+#[derive(Clone, Copy, PartialEq, Eq)]
 pub enum Why {
     /// The move at this place, counted from 0, is the first that is not legal, for this fault.
     Step { place: usize, fault: MoveFault },

@@ -7,7 +7,7 @@ use Rattle.text_lines.specs.Lines.{NumberedLine, Text, text_of}
 use Rattle.text_items.specs.declared.fault.TextFault.{TextFault}
 use Rattle.text_items.specs.declared.fault.TextFault.TheVariants.{Malformed}
 use Rattle.text_items.specs.Reading.{next_line, next_token, word}
-use Rattle.text_items.specs.NumberLines.{numbers_behind}
+use Rattle.text_items.specs.Numbers.{numbers_behind}
 use Rattle.text_items.specs.Grids.{x_at, grid_item}
 use Rattle.verdict_text.specs.Diagrams.{diagram_item}
 use Rattle.verdict_text.specs.Problems.{problem_item, check_in}

@@ -4,6 +4,7 @@ pub mod CertificateTruth
 pub mod Ports
 pub mod Ending
 pub mod Delivered
+pub mod CheckExit
 pub use Rattle.number_text.specs.Said
 pub use Rattle.reply_text.specs.Lines
 pub use Rattle.reply_text.specs.Reply
@@ -11,7 +12,7 @@ pub use Rattle.knot_ports.specs.Change
 pub use Rattle.grid_moves.specs.Joining
 pub use Rattle.verdict_core.specs.Diagrams
 pub use Rattle.verdict_text.specs.Problems
-pub use Rattle.number_text.specs.Evidence
+pub use Rattle.number_text.specs.EvidenceItems
 pub use Rattle.number_check.specs.EvidenceHolds
 pub use Rattle.number_check.specs.Ruling as NumberRuling
 pub use Rattle.cert_check.specs.Ruling

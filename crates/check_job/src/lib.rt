@@ -3,11 +3,13 @@
 #![tactic(auto)]
 
 mod call;
+mod checker;
 mod checking;
 mod evidence;
 mod ports;
 
 pub use call::run;
+pub use checker::program;
 pub use checking::answer;
 pub use evidence::check_evidence;
 pub use knot_ports::Status;

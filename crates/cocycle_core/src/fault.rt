@@ -8,7 +8,7 @@ use crate::draft::Draft;
 use quandle_core::Operations;
 
 /// The first law that a table of numbers breaks, with its lexicographically first case.
-#[derive(Clone, Copy, Debug, PartialEq, Eq)]
+#[derive(Clone, Copy, PartialEq, Eq)]
 pub enum CocycleFault {
     /// The modulus is 0 or 1.
     Modulus,

@@ -8,7 +8,7 @@ ghost use Rattle.cocycle_core.specs.ShadowFault.{first_shadow_fault, shadow_obey
 use quandle_core::Quandle;
 
 /// The first law that a table of numbers breaks, with its lexicographically first case.
-#[derive(Clone, Copy, Debug, PartialEq, Eq)]
+#[derive(Clone, Copy, PartialEq, Eq)]
 pub enum ShadowFault {
     /// The modulus is 0 or 1.
     Modulus,

@@ -16,7 +16,7 @@ use std::alloc::Global;
 pub const MAX_CROSSINGS: usize = MAX_SIZE * MAX_SIZE / 2 - MAX_SIZE;
 
 /// Why a code is that of no diagram in the plane: the first of these that holds.
-#[derive(Clone, Copy, Debug, PartialEq, Eq)]
+#[derive(Clone, Copy, PartialEq, Eq)]
 pub enum CodeFault {
     /// There is no crossing and no loop.
     Empty,

@@ -12,7 +12,7 @@ use memory_core::OutOfMemory;
 use std::alloc::{AllocError, Global};
 
 /// The sign of a crossing: the value of a root, or the other one. A root is a crossing by its number, or the number of all, whose value is true.
-#[derive(Clone, Copy, Debug, PartialEq, Eq)]
+#[derive(Clone, Copy, PartialEq, Eq)]
 pub(crate) struct Tie {
     /// The root.
     pub(crate) root: usize,

@@ -6,7 +6,7 @@ ghost use Rattle.code_rows.specs.RowsFault.{ends_of, lesser, least_unpaired, unp
 use crate::row::CodeRow;
 
 /// Why rows are no code of a diagram in the plane: the first of these that holds. Edges are given by their names.
-#[derive(Clone, Copy, Debug, PartialEq, Eq)]
+#[derive(Clone, Copy, PartialEq, Eq)]
 pub enum RowsFault {
     /// There is no row and no loop.
     Empty,

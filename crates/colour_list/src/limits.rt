@@ -10,7 +10,7 @@ use std::alloc::{AllocError, AllocFailed};
 pub const MAX_COLOURINGS: usize = 65536;
 
 /// Why there is no list.
-#[derive(Clone, Copy, Debug, PartialEq, Eq)]
+#[derive(Clone, Copy, PartialEq, Eq)]
 pub enum ListFault {
     /// The order to the power of the number of bottoms is over `MAX_COLOURINGS`.
     TooWide { bottoms: u8 },

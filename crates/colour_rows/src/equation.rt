@@ -14,7 +14,7 @@ use quandle_core::{Operations, Quandle};
 use std::marker::Model;
 
 /// A column that a row passes under.
-#[derive(Clone, Copy, Debug, Default, PartialEq, Eq)]
+#[derive(Clone, Copy, Default, PartialEq, Eq)]
 pub struct Pass {
     /// The column, from 0 on the left.
     pub column: u8,

@@ -26,7 +26,7 @@ use std::alloc::{AllocFailed, Global};
 pub const MAX_CANDIDATES: u32 = 2097152;
 
 /// Why colourings were not counted.
-#[derive(Clone, Copy, Debug, PartialEq, Eq)]
+#[derive(Clone, Copy, PartialEq, Eq)]
 pub enum CountFault {
     /// The order to the power of the number of seeds is over `MAX_CANDIDATES`.
     TooWide,

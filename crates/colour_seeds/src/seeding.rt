@@ -13,7 +13,7 @@ use std::alloc::{AllocFailed, Global};
 use std::marker::Model;
 
 /// Why a list of columns was refused.
-#[derive(Clone, Copy, Debug, PartialEq, Eq)]
+#[derive(Clone, Copy, PartialEq, Eq)]
 pub enum SeedFault {
     /// The first that is no column of the grid.
     Outside { column: u8 },

@@ -13,7 +13,7 @@ use grid_core::{Grid, MAX_SIZE};
 use std::alloc::Global;
 
 /// The columns of a row by bits: those that pass over it, and its ends.
-#[derive(Clone, Copy, Debug, Default, PartialEq, Eq)]
+#[derive(Clone, Copy, Default, PartialEq, Eq)]
 struct RowMask {
     overs: u64,
     ends: u64,

@@ -4,7 +4,7 @@ use memory_core::Items;
 
 /// The four edges at a crossing, counterclockwise from the one on which the strand under comes, in the order of the KnotTheory package.
 /// Edges are numbered from 1.
-#[derive(Clone, Copy, Debug, PartialEq, Eq)]
+#[derive(Clone, Copy, PartialEq, Eq)]
 pub struct Crossing {
     /// The edge on which the strand under comes.
     pub first: u32,

@@ -10,7 +10,7 @@ use grid_core::Span;
 use std::alloc::AllocError;
 
 /// Going through a crossing as one follows a strand.
-#[derive(Clone, Copy, Debug, PartialEq, Eq)]
+#[derive(Clone, Copy, PartialEq, Eq)]
 pub(crate) struct Passage {
     /// Over, along the column, or under, along the row.
     pub(crate) over: bool,

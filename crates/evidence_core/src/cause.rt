@@ -3,7 +3,7 @@ ghost use Rattle.std.specs.Prelude.{◌≡◌};
 ghost use Rattle.evidence_core.specs.Links.{place_cause};
 
 /// The answer of the checker.
-#[derive(Clone, Copy, Debug, PartialEq, Eq)]
+#[derive(Clone, Copy, PartialEq, Eq)]
 pub enum NumberRuling {
     /// The evidence holds.
     Accepted,
@@ -12,7 +12,7 @@ pub enum NumberRuling {
 }
 
 /// Why evidence by numbers does not hold: the first of these that holds of diagram 1, else the first that holds of diagram 2, else `Equal`.
-#[derive(Clone, Copy, Debug, PartialEq, Eq)]
+#[derive(Clone, Copy, PartialEq, Eq)]
 pub enum Cause {
     /// The first of the seeds of this diagram that is no column of it. One that was read as a number over 254 is reported as 255.
     Outside { which: u8, column: u8 },

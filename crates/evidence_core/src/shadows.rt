@@ -3,7 +3,7 @@
 use cocycle_core::ShadowCocycle;
 
 /// How a shadow cocycle is spelled.
-#[derive(Clone, Copy, Debug, PartialEq, Eq)]
+#[derive(Clone, Copy, PartialEq, Eq)]
 pub enum Spelling {
     /// By the name of Mochizuki's formula.
     Mochizuki,

@@ -4,7 +4,7 @@ ghost use Rattle.std.specs.List.{list_all, list_any};
 ghost use Rattle.grid_core.specs.Fault.{lowest, is_outside, is_repeated};
 
 /// Why two lists `x` and `o` of rows by column are no grid: the first of these that holds, at its lowest column.
-#[derive(Clone, Copy, Debug, PartialEq, Eq)]
+#[derive(Clone, Copy, PartialEq, Eq)]
 pub enum GridFault {
     /// The length of `x` is below 2 or above `MAX_SIZE`.
     Size,

@@ -4,7 +4,7 @@ ghost use Rattle.grid_core.specs.Diagram.{other};
 ghost use Rattle.grid_core.specs.Corners.{corner_column, corner_row};
 
 /// The kind of a mark: X (`Cross`) or O (`Ring`).
-#[derive(Clone, Copy, Debug, PartialEq, Eq)]
+#[derive(Clone, Copy, PartialEq, Eq)]
 pub enum Kind {
     Cross,
     Ring,
@@ -24,7 +24,7 @@ impl Kind {
 
 /// A corner of a block of two columns and two rows.
 /// As (column, row) in the block these are (0, 0), (1, 0), (0, 1) and (1, 1).
-#[derive(Clone, Copy, Debug, PartialEq, Eq)]
+#[derive(Clone, Copy, PartialEq, Eq)]
 pub enum Corner {
     LowLeft,
     LowRight,

@@ -3,7 +3,7 @@ ghost use Rattle.std.specs.Prelude.{◌≡◌, ◌||◌};
 ghost use Rattle.grid_core.specs.Span.{span, share_an_end, share_both_ends, are_disjoint, are_nested};
 
 /// An interval of rows or of columns, by its lower end and its higher end.
-#[derive(Clone, Copy, Debug, PartialEq, Eq)]
+#[derive(Clone, Copy, PartialEq, Eq)]
 pub struct Span {
     pub low: u8,
     pub high: u8,

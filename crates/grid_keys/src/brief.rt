@@ -11,7 +11,7 @@ const SIZE_PLACE: u128 = 1 << (DIGIT_BITS * WORD_COLUMNS as u32);
 
 /// The key of a grid of at most `WORD_COLUMNS` columns in two numbers, which a map of many keys keeps and compares in less than a third
 /// of the memory. Brief keys are equal exactly for equal keys.
-#[derive(Clone, Copy, Debug, PartialEq, Eq, Hash)]
+#[derive(Clone, Copy, PartialEq, Eq, Hash)]
 pub struct BriefKey {
     /// The word of the Xs, and above its digits the size.
     x: u128,

@@ -35,7 +35,7 @@ const BITS_BEHIND_TOP: u32 = u128::BITS - DIGIT_BITS;
 
 /// The key of a grid. Keys are equal exactly for equal grids; they are ordered by size, then by the Xs, then by the Os,
 /// so the fields are in this order.
-#[derive(Clone, Copy, Debug, Default, PartialEq, Eq, PartialOrd, Ord)]
+#[derive(Clone, Copy, Default, PartialEq, Eq, PartialOrd, Ord)]
 pub struct Packed {
     /// The size of the grid.
     pub size: u8,

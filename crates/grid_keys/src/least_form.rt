@@ -45,7 +45,7 @@ impl LeastForm {
 }
 
 /// The key of the canonical form of a grid, and the shifts that reach it.
-#[derive(Clone, Copy, Debug, PartialEq, Eq)]
+#[derive(Clone, Copy, PartialEq, Eq)]
 pub struct LeastKey {
     /// The key of the canonical form.
     pub key: Packed,

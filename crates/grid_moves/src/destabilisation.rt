@@ -31,7 +31,7 @@ pub(crate) fn destabilise(grid: &mut Grid, column: u8, row: u8) -> Result<(), Mo
 }
 
 /// What a destabilisation takes out of a grid of size n: one row, and of the marks of each kind the column whose mark is in that row.
-#[derive(Clone, Copy, Debug, PartialEq, Eq)]
+#[derive(Clone, Copy, PartialEq, Eq)]
 pub struct Narrowing {
     /// The row, from 0 to n - 1.
     pub row: u8,

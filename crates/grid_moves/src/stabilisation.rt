@@ -40,7 +40,7 @@ pub(crate) fn stabilise(
 }
 
 /// What a stabilisation puts into a grid of size n: one row, and for the marks of each kind one column, whose mark is in that row.
-#[derive(Clone, Copy, Debug, PartialEq, Eq)]
+#[derive(Clone, Copy, PartialEq, Eq)]
 pub struct Widening {
     /// The new row, from 0 to n.
     pub row: u8,

@@ -4,7 +4,7 @@ use grid_core::{Corner, Kind};
 
 /// A move of a grid diagram of size n (Cromwell 1995, Dynnikov 2006; the slide is made of theirs, see the crate's README).
 /// Columns are counted from the left and rows from below, both from 0.
-#[derive(Clone, Copy, Debug, PartialEq, Eq)]
+#[derive(Clone, Copy, PartialEq, Eq)]
 pub enum Move {
     /// By k, from 1 to n - 1: the k leftmost columns go, in order, to the right end.
     ShiftColumns(u8),
@@ -36,7 +36,7 @@ pub enum Move {
 }
 
 /// Why a move is not legal on a grid of size n: the first of these that holds.
-#[derive(Clone, Copy, Debug, PartialEq, Eq)]
+#[derive(Clone, Copy, PartialEq, Eq)]
 pub enum MoveFault {
     /// A shift by 0 or by n or more, an exchange or a slide whose second column or row lies outside, a stabilisation in
     /// a column that is not there, or a block that reaches outside.

@@ -1,10 +1,7 @@
 //! The checker: rules on the evidence on standard input, and writes the ruling to standard output, as `knot check`.
 #![tactic(auto)]
 
-mod call;
-mod program;
-
-use crate::program::program;
+use check_job::program;
 use knot_ports::{StdSink, StdSource, system_words};
 use std::process::ExitCode;
 

@@ -212,10 +212,16 @@ fn deliver<K: Sink>(sink: &mut K, reply: Reply, kept: &mut Option<Finding>) -> S
     ensures count { K.faults sink.old ≤ K.faults sink.new }
 {
     match give_all(sink, reply.text.as_slice()) {
-        Ok(()) => {
-            *kept = reply.kept;
-            reply.status
-        }
+        Ok(()) => keep(reply, kept),
         Err(_) => Status::WriteFault,
     }
+}
+
+/// Keeps the search of a reply: the reply's status.
+fn keep(reply: Reply, kept: &mut Option<Finding>) -> Status
+    ensures status { result ≡ reply.status }
+    ensures kept { kept.new ≡ reply.kept }
+{
+    *kept = reply.kept;
+    reply.status
 }

@@ -4,7 +4,7 @@ use std::str;
 use text_lines::Lines;
 
 /// What an answer to a bad input names.
-#[derive(Clone, Copy, Debug, PartialEq, Eq)]
+#[derive(Clone, Copy, PartialEq, Eq)]
 pub(crate) enum Named {
     /// This line, counted from 1.
     Line(usize),

@@ -4,7 +4,7 @@ use crate::lines::number_behind;
 use std::fmt;
 
 /// Why no diagram of a code is answered.
-#[derive(Clone, Copy, Debug, PartialEq, Eq)]
+#[derive(Clone, Copy, PartialEq, Eq)]
 pub enum Refusal {
     /// There is no crossing and no loop.
     Empty,

@@ -21,7 +21,7 @@ use std::io::{Read, Write};
 use std::{fmt, io};
 
 /// What is reported of a call that ended with another status than `Done` and `Unknown`.
-#[derive(Debug, Drop)]
+#[derive(Drop)]
 pub enum Sentence<'a> {
     /// Why the words ask for no job.
     Words(BadWords<'a>),

@@ -7,7 +7,7 @@ use std::fs::Files;
 use std::{fmt, fs};
 
 /// An option, and which whole numbers it takes.
-#[derive(Clone, Copy, Debug, PartialEq, Eq)]
+#[derive(Clone, Copy, PartialEq, Eq)]
 pub struct Knob {
     pub name: &'static str,
     pub least: &'static str,
@@ -45,7 +45,7 @@ const KNOBS: [Knob; 4] = [
 ];
 
 /// Why words ask for no job.
-#[derive(Clone, Copy, Debug, PartialEq, Eq)]
+#[derive(Clone, Copy, PartialEq, Eq)]
 pub enum BadWords<'a> {
     /// There is none.
     NoJob,

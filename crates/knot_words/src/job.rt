@@ -6,7 +6,7 @@ ghost use Rattle.knot_words.specs.Limits.{limit_of};
 use knot_ports::{MAX_CERTIFICATE, MAX_INPUT};
 
 /// What the program can be asked to do.
-#[derive(Clone, Copy, Debug, PartialEq, Eq)]
+#[derive(Clone, Copy, PartialEq, Eq)]
 pub enum Job {
     /// Looks for evidence that two diagrams are equal or different.
     Decide,
@@ -21,7 +21,7 @@ pub enum Job {
 }
 
 /// A job that needs no search and takes no option.
-#[derive(Clone, Copy, Debug, PartialEq, Eq)]
+#[derive(Clone, Copy, PartialEq, Eq)]
 pub enum PlainJob {
     /// Rules on evidence about two diagrams, or on a table of knots.
     Check,

@@ -15,7 +15,7 @@ use std::alloc::{AllocError, Global};
 use std::str::FromStr;
 
 /// A job and its options.
-#[derive(Clone, Copy, Debug, PartialEq, Eq)]
+#[derive(Clone, Copy, PartialEq, Eq)]
 pub struct Asked {
     pub job: Job,
     /// How many workers search, 1 to 64.
@@ -32,7 +32,7 @@ pub struct Asked {
 pub const MAX_BUDGET: u32 = 500_000;
 
 /// Why words are not taken.
-#[derive(Clone, Copy, Debug, PartialEq, Eq)]
+#[derive(Clone, Copy, PartialEq, Eq)]
 pub enum WordsFault {
     /// `clap` refuses them for another cause than memory, or they name none of the jobs.
     Usage,

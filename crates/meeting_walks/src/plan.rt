@@ -1,7 +1,7 @@
 //! What bounds a search, and how many take part in it.
 
 /// What bounds a search, and the seed of its random words. Where several workers search, the bounds are those of each.
-#[derive(Clone, Copy, Debug, PartialEq, Eq)]
+#[derive(Clone, Copy, PartialEq, Eq)]
 pub struct Bounds {
     /// The seed: for the same diagrams, the same bounds and as many workers, the same list is found again.
     pub seed: u64,
@@ -16,7 +16,7 @@ pub struct Bounds {
 }
 
 /// Bounds, and how many workers search within them.
-#[derive(Clone, Copy, Debug, PartialEq, Eq)]
+#[derive(Clone, Copy, PartialEq, Eq)]
 pub struct Plan {
     /// The seed of the first worker, and what bounds the walks of each.
     pub bounds: Bounds,

@@ -1,7 +1,7 @@
 //! How a search reports how far it is.
 
 /// How far the first worker of a search is.
-#[derive(Clone, Copy, Debug, PartialEq, Eq)]
+#[derive(Clone, Copy, PartialEq, Eq)]
 pub struct Progress {
     /// The steps that it has made.
     pub steps: u64,
@@ -21,7 +21,7 @@ pub trait Watch {
 }
 
 /// Takes note of nothing.
-#[derive(Clone, Copy, Debug)]
+#[derive(Clone, Copy)]
 pub struct Unwatched;
 
 impl Watch for Unwatched {

@@ -3,7 +3,7 @@
 use std::alloc::{AllocError, AllocFailed};
 
 /// There was no memory left for what a call keeps.
-#[derive(Clone, Copy, Debug, PartialEq, Eq)]
+#[derive(Clone, Copy, PartialEq, Eq)]
 pub struct OutOfMemory;
 
 impl From<AllocError> for OutOfMemory {

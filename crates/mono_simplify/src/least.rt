@@ -21,7 +21,7 @@ use next_moves::Offers;
 use std::alloc::Global;
 
 /// Whether the whole class was seen.
-#[derive(Clone, Copy, Debug, PartialEq, Eq)]
+#[derive(Clone, Copy, PartialEq, Eq)]
 pub enum LeastEnd {
     /// The class has at most as many members as the budget, and the answered diagram is the least that shifts and exchanges reach.
     Whole,

@@ -11,7 +11,7 @@ use next_moves::Offers;
 use std::alloc::Global;
 
 /// Why no more was done.
-#[derive(Clone, Copy, Debug, PartialEq, Eq)]
+#[derive(Clone, Copy, PartialEq, Eq)]
 pub enum SimpleEnd {
     /// The whole listing of the answered diagram has at most as many members as the budget, and no diagram that shifts and exchanges
     /// reach from it has a legal destabilisation.

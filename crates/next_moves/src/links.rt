@@ -9,7 +9,7 @@ use memory_core::OutOfMemory;
 
 /// One way from a canonical diagram to a neighbour: the shifts before, the move, and the shifts after.
 /// Each pair is a shift of columns and a shift of rows, of which 0 means none.
-#[derive(Clone, Copy, Debug, PartialEq, Eq)]
+#[derive(Clone, Copy, PartialEq, Eq)]
 pub struct Link {
     /// The shifts of columns and of rows before the move, each from 0 to n - 1 for a diagram of n columns.
     pub before: (u8, u8),
@@ -36,7 +36,7 @@ impl Default for Link {
 }
 
 /// A neighbour by its key, and the link that leads to it.
-#[derive(Clone, Copy, Debug, Default, PartialEq, Eq)]
+#[derive(Clone, Copy, Default, PartialEq, Eq)]
 pub struct Offer {
     /// The key of the neighbour, which is a canonical diagram.
     pub key: Packed,

@@ -13,10 +13,10 @@ use Rattle.verdict_core.specs.Diagrams.{grid_of, column_count}
 use Rattle.verdict_text.specs.Diagrams.{diagram_item}
 use Rattle.verdict_text.specs.Problems.{problem_item, check_in, check_of}
 use Rattle.knot_text.specs.Shapes.{replay_in, replay_of}
-use Rattle.number_text.specs.Evidence.{third_item}
+use Rattle.number_text.specs.EvidenceItems.{evidence_item}
 use Rattle.number_text.specs.declared.said.Said.{Said}
 use Rattle.number_text.specs.declared.said.Said.TheVariants as said
-use Rattle.number_text.specs.Said.{has_third, third_in, third_of, with_verdict, said_of}
+use Rattle.number_text.specs.Said.{evidence_follows, evidence_in, evidence_of, with_verdict, said_of}
 use Rattle.knot_text.proofs.Steady.{bind_ok, ok_is}
 use Rattle.knot_text.proofs.GridsRead.{diagram_is, problem_grids}
 
@@ -36,16 +36,16 @@ check_grids bytes p v is =
 
 -- the same of whatever is said of them
 pub said_grids : (bytes : List ℕ) (p : ProblemText) (s : Said) → said_of bytes ≡ Ok (p, s) → IsGrid (grid_of p.first) × IsGrid (grid_of p.second)
-unfolding third_in
-said_grids bytes p s is = by (has_third (problem_item (text_of bytes))) is
+unfolding evidence_in
+said_grids bytes p s is = by (evidence_follows (problem_item (text_of bytes))) is
   where
-    by : (t : Bool) → cond t (third_of bytes) (with_verdict (check_of bytes)) ≡ Ok (p, s) → IsGrid (grid_of p.first) × IsGrid (grid_of p.second)
+    by : (t : Bool) → cond t (evidence_of bytes) (with_verdict (check_of bytes)) ≡ Ok (p, s) → IsGrid (grid_of p.first) × IsGrid (grid_of p.second)
     by true is =
         let text = text_of bytes in
         let a = bind_ok (problem_item text)
-        (λ problem. third_item problem.1 >>= λ evidence. text_end evidence.1 >>= λ end. Ok (problem.0, said.Evidence evidence.0)) (p, s) is in
+        (λ problem. evidence_item problem.1 >>= λ evidence. text_end evidence.1 >>= λ end. Ok (problem.0, said.Evidence evidence.0)) (p, s) is in
         let q = a.0.0 in
-        let b = bind_ok (third_item a.0.1) (λ evidence. text_end evidence.1 >>= λ end. Ok (q, said.Evidence evidence.0)) (p, s) a.2 in
+        let b = bind_ok (evidence_item a.0.1) (λ evidence. text_end evidence.1 >>= λ end. Ok (q, said.Evidence evidence.0)) (p, s) a.2 in
         let c = bind_ok (text_end b.0.1) (λ end. Ok (q, said.Evidence b.0.0)) (p, s) b.2 in
         let same : q ≡ p = ap (λ (y : ProblemText × Said). y.0) (ok_is (q, said.Evidence b.0.0) (p, s) c.2) in
         subst (λ (y : ProblemText). IsGrid (grid_of y.first) × IsGrid (grid_of y.second)) {x = q} same (problem_grids text q a.0.1 a.1)

@@ -19,7 +19,7 @@ use Rattle.knot_text.proofs.FirstFault.{anywhere_seen, then_fails, end_fails}
 use Rattle.knot_text.proofs.ShapesFail.{diagram_steady}
 use Rattle.evidence_core.specs.declared.blocks.Block.{Block}
 use Rattle.number_text.specs.declared.numbered.NumbersText.{NumbersText}
-use Rattle.number_text.specs.Blocks.{block_item, surplus_block, blocks, or_built_in_blocks, block_list, blocks_in}
+use Rattle.number_text.specs.Blocks.{block_item, surplus_block, listed_blocks, built_in_if_none, blocks_or_built_in, blocks_in}
 use Rattle.number_text.specs.Numbered.{numbers_in}
 use Rattle.plain_jobs.proofs.TableFails.{line_fails, block_fails}
 
@@ -71,7 +71,7 @@ surplus_fails k fails =
 -- ---- blocks up to the first line behind one that does not begin with `quandle`
 
 abbrev listed_then : {B : Type 0} → ℕ → ℕ → (List Block → Text → Result B TextFault) → Text → Result B TextFault
-listed_then most room k text = blocks most room text >>= λ bs. k bs.0 bs.1
+listed_then most room k text = listed_blocks most room text >>= λ bs. k bs.0 bs.1
 
 abbrev first_then : {B : Type 0} → ℕ → ℕ → (List Block → Text → Result B TextFault) → Text → Result B TextFault
 first_then most room k text = block_item most text >>= λ first. listed_then most room (λ others. k (first.0 ∷ others)) first.1
@@ -82,14 +82,14 @@ flat_others first (Ok others) k = refl
 flat_others first (Err e) k = refl
 
 flat_first : {B : Type 0} (most room : ℕ) (r : Result (Block × Text) TextFault) (k : List Block → Text → Result B TextFault)
-    → ((r >>= λ first. blocks most room first.1 >>= λ others. given (first.0 ∷ others.0) others.1) >>= λ bs. k bs.0 bs.1)
+    → ((r >>= λ first. listed_blocks most room first.1 >>= λ others. given (first.0 ∷ others.0) others.1) >>= λ bs. k bs.0 bs.1)
     ≡ (r >>= λ first. listed_then most room (λ others. k (first.0 ∷ others)) first.1)
-flat_first most room (Ok first) k = flat_others first.0 (blocks most room first.1) k
+flat_first most room (Ok first) k = flat_others first.0 (listed_blocks most room first.1) k
 flat_first most room (Err e) k = refl
 
 flat_none : {B : Type 0} (most : ℕ) (k : List Block → Text → Result B TextFault) (text : Text)
     → listed_then most zero k text ≡ choice (codes "quandle") (surplus_then k) (k []) text
-unfolding blocks
+unfolding listed_blocks
 flat_none {B} most k text = by (first_starts (codes "quandle") text.lines)
   where
     by : (t : Bool) → (cond t (surplus_block text) (given [] text) >>= λ bs. k bs.0 bs.1) ≡ cond t (surplus_then k text) (k [] text)
@@ -98,11 +98,11 @@ flat_none {B} most k text = by (first_starts (codes "quandle") text.lines)
 
 flat_some : {B : Type 0} (most room : ℕ) (k : List Block → Text → Result B TextFault) (text : Text)
     → listed_then most (suc room) k text ≡ choice (codes "quandle") (first_then most room k) (k []) text
-unfolding blocks
+unfolding listed_blocks
 flat_some {B} most room k text = by (first_starts (codes "quandle") text.lines)
   where
     by : (t : Bool)
-        → (cond t (block_item most text >>= λ first. blocks most room first.1 >>= λ others. given (first.0 ∷ others.0) others.1) (given [] text)
+        → (cond t (block_item most text >>= λ first. listed_blocks most room first.1 >>= λ others. given (first.0 ∷ others.0) others.1) (given [] text)
         >>= λ bs. k bs.0 bs.1) ≡ cond t (first_then most room k text) (k [] text)
     by true = flat_first most room (block_item most text) k
     by false = refl
@@ -128,22 +128,23 @@ abbrev ended : Diagram → List Block → Text → Result NumbersText TextFault
 ended d bs text = text_end text >>= λ end. Ok (numbers_text d bs)
 
 flat_built_in : {B : Type 0} (s : Result (List Block × Text) TextFault) (k : List Block → Text → Result B TextFault)
-    → ((s >>= λ listed. given (or_built_in_blocks listed.0) listed.1) >>= λ bs. k bs.0 bs.1) ≡ (s >>= λ listed. k (or_built_in_blocks listed.0) listed.1)
+    → ((s >>= λ listed. given (built_in_if_none listed.0) listed.1) >>= λ bs. k bs.0 bs.1) ≡ (s >>= λ listed. k (built_in_if_none listed.0) listed.1)
 flat_built_in (Ok listed) k = refl
 flat_built_in (Err e) k = refl
 
-behind_diagram_fails : (d : Diagram) → FailsFirst (λ text. block_list text >>= λ listed. ended d listed.0 listed.1)
-unfolding block_list
+behind_diagram_fails : (d : Diagram) → FailsFirst (λ text. blocks_or_built_in text >>= λ listed. ended d listed.0 listed.1)
+unfolding blocks_or_built_in
 behind_diagram_fails d =
-    same_fails (listed_then MAX_LARGE_ORDER MAX_QUANDLES (λ bs. ended d (or_built_in_blocks bs)))
-    (λ text. block_list text >>= λ listed. ended d listed.0 listed.1)
-    (λ text. flat_built_in (blocks MAX_LARGE_ORDER MAX_QUANDLES text) (ended d))
-    (list_fails MAX_LARGE_ORDER MAX_QUANDLES (λ bs. ended d (or_built_in_blocks bs)) (λ bs. end_fails (numbers_text d (or_built_in_blocks bs))))
+    same_fails (listed_then MAX_LARGE_ORDER MAX_QUANDLES (λ bs. ended d (built_in_if_none bs)))
+    (λ text. blocks_or_built_in text >>= λ listed. ended d listed.0 listed.1)
+    (λ text. flat_built_in (listed_blocks MAX_LARGE_ORDER MAX_QUANDLES text) (ended d))
+    (list_fails MAX_LARGE_ORDER MAX_QUANDLES (λ bs. ended d (built_in_if_none bs)) (λ bs. end_fails (numbers_text d (built_in_if_none bs))))
 
 pub numbers_fail : FailsFirst numbers_in
 unfolding numbers_in
 numbers_fail =
-    then_fails Anywhere diagram_item (λ d text. block_list text >>= λ listed. ended d listed.0 listed.1) anywhere_seen diagram_steady behind_diagram_fails
+    then_fails Anywhere diagram_item (λ d text. blocks_or_built_in text >>= λ listed. ended d listed.0 listed.1) anywhere_seen diagram_steady
+    behind_diagram_fails
 
 pub blocks_fail : FailsFirst blocks_in
 unfolding blocks_in

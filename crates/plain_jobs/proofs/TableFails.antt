@@ -38,7 +38,8 @@ use Rattle.evidence_core.specs.declared.blocks.LargeWeighing.{LargeWeighing}
 use Rattle.evidence_core.specs.declared.blocks.LargeWeighing.TheVariants.{Strands, Regions}
 use Rattle.evidence_core.specs.declared.blocks.Block.{Block}
 use Rattle.number_text.specs.BlockCocycles.{cocycle_or_none}
-use Rattle.number_text.specs.Evidence.{seeds_at, numbers_line_at, count_of}
+use Rattle.number_text.specs.NumberLines.{seeds_at, numbers_line_at}
+use Rattle.number_text.specs.EvidenceItems.{count_of}
 use Rattle.number_text.specs.Blocks.{block_item}
 use Rattle.table_check.specs.declared.class_items.Class.{Class}
 use Rattle.table_check.specs.declared.row_items.OpenPair.{OpenPair}

@@ -13,7 +13,7 @@ use Rattle.knot_text.proofs.GridsRead.{diagram_is}
 use Rattle.knot_text.proofs.Says.{Says, says_ok, says_bind}
 use Rattle.certificates.proofs.Earlier.{anything}
 use Rattle.evidence_core.specs.declared.blocks.Block.{Block}
-use Rattle.number_text.specs.Evidence.{seeds_at}
+use Rattle.number_text.specs.NumberLines.{seeds_at}
 use Rattle.table_check.specs.declared.class_items.Class.{Class}
 use Rattle.table_check.specs.declared.row_items.KnotRow.{KnotRow}
 use Rattle.table_check.specs.declared.tables.KnotTable.{KnotTable}

@@ -5,7 +5,7 @@ ghost use Rattle.quandle_core.specs.Fault.{or_else, order_fault, length_fault, r
 ghost use Rattle.quandle_core.specs.Fault.{first_fault_within, collides, distributes};
 
 /// The first law that a table breaks, with its lexicographically first case.
-#[derive(Clone, Copy, Debug, PartialEq, Eq)]
+#[derive(Clone, Copy, PartialEq, Eq)]
 pub enum QuandleFault {
     /// The order lies outside 1 to the greatest.
     Order,

@@ -13,7 +13,7 @@ use std::alloc::{AllocFailed, Global};
 use std::marker::Model;
 
 /// Why a table gave no `LargeQuandle`.
-#[derive(Clone, Copy, Debug, PartialEq, Eq)]
+#[derive(Clone, Copy, PartialEq, Eq)]
 pub enum LargeFault {
     /// The first law that the table breaks, with its lexicographically first case.
     Broken { fault: QuandleFault },

@@ -9,7 +9,7 @@ use crate::quandle::{MAX_ORDER, Quandle};
 use std::marker::Model;
 
 /// What a quandle is called. The numbers may be any; in a `Listed` the order is from 1 to `MAX_ORDER`.
-#[derive(Clone, Copy, Debug, PartialEq, Eq)]
+#[derive(Clone, Copy, PartialEq, Eq)]
 pub enum QuandleName {
     /// The trivial quandle of this order.
     Trivial(u8),

@@ -1,19 +1,9 @@
 //! The program: a call of `program` over the words, files and streams of the system, on a stack of stated size.
 #![tactic(auto)]
 
-mod blocks;
-mod call;
-mod failure;
-mod inputs;
-mod outlets;
-mod program;
-mod progress;
-mod report;
-mod search;
-
-use crate::outlets::{Outlets, Terminals};
-use crate::program::program;
 use knot_ports::{NoWords, StdSink, on_stack, system_words};
+use seek_call::outlets::{Outlets, Terminals};
+use seek_call::program::program;
 use seek_parts::{DiskPlaces, SystemTexts};
 use std::io::IsTerminal;
 use std::process::ExitCode;

@@ -7,7 +7,7 @@ use std::fmt;
 use text_lines::Lines;
 
 /// Why a text is not one diagram.
-#[derive(Clone, Copy, Debug, PartialEq, Eq)]
+#[derive(Clone, Copy, PartialEq, Eq)]
 pub enum NotOne {
     /// It has no line but blank ones and comments.
     Nothing,

@@ -11,7 +11,7 @@ use text_items::reading::MAX_NUMBER;
 use text_lines::{Line, MAX_DIGITS};
 
 /// Why a line is no braid.
-#[derive(Clone, Copy, Debug, PartialEq, Eq)]
+#[derive(Clone, Copy, PartialEq, Eq)]
 pub enum BraidReason<'a> {
     /// Nothing follows `braid`.
     NoStrands,

@@ -7,14 +7,14 @@ use std::fmt;
 use text_lines::Line;
 
 /// The kind of the marks of a line.
-#[derive(Clone, Copy, Debug, PartialEq, Eq)]
+#[derive(Clone, Copy, PartialEq, Eq)]
 pub enum MarkKind {
     Crosses,
     Rings,
 }
 
 /// Why a line is no line of a grid.
-#[derive(Clone, Copy, Debug, PartialEq, Eq)]
+#[derive(Clone, Copy, PartialEq, Eq)]
 pub enum GridReason {
     /// There are more numbers than a diagram may have columns.
     ManyColumns {

@@ -12,7 +12,7 @@ use text_items::MAX_QUANDLES;
 use text_lines::{Line, Lines};
 
 /// The families of quandles that have names.
-#[derive(Clone, Copy, Debug, PartialEq, Eq)]
+#[derive(Clone, Copy, PartialEq, Eq)]
 pub enum Family {
     Trivial,
     Dihedral,
@@ -22,7 +22,7 @@ pub enum Family {
 }
 
 /// Why a line is no quandle, or no row of its table.
-#[derive(Clone, Copy, Debug, PartialEq, Eq)]
+#[derive(Clone, Copy, PartialEq, Eq)]
 pub enum QuandleReason<'a> {
     /// Nothing follows `quandle`.
     NoName,

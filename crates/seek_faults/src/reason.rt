@@ -9,7 +9,7 @@ use std::fmt;
 use text_lines::MAX_DIGITS;
 
 /// Which of the diagrams of an input.
-#[derive(Clone, Copy, Debug, PartialEq, Eq)]
+#[derive(Clone, Copy, PartialEq, Eq)]
 pub enum Which {
     Only,
     First,
@@ -17,7 +17,7 @@ pub enum Which {
 }
 
 /// What is due in a line of an input.
-#[derive(Clone, Copy, Debug, PartialEq, Eq)]
+#[derive(Clone, Copy, PartialEq, Eq)]
 pub enum Due {
     /// The first line of a diagram.
     Diagram { which: Which, is_braid: bool },
@@ -38,7 +38,7 @@ pub enum Due {
 }
 
 /// Why a line is not what is due.
-#[derive(Clone, Copy, Debug, PartialEq, Eq)]
+#[derive(Clone, Copy, PartialEq, Eq)]
 pub enum Reason<'a> {
     /// There is no such line: the text ends before.
     Ends { due: Due },

@@ -12,7 +12,7 @@ use text_items::{MAX_MODULUS, MAX_QUANDLES};
 use text_lines::MAX_DIGITS;
 
 /// What an input is made of: diagrams, and what follows them.
-#[derive(Clone, Copy, Debug, PartialEq, Eq)]
+#[derive(Clone, Copy, PartialEq, Eq)]
 pub struct Shape {
     /// Two diagrams, or one.
     pub are_two: bool,
@@ -22,7 +22,7 @@ pub struct Shape {
 }
 
 /// What follows the diagrams.
-#[derive(Clone, Copy, Debug, PartialEq, Eq)]
+#[derive(Clone, Copy, PartialEq, Eq)]
 pub enum Then {
     Nothing,
     /// Any number of quandles.
@@ -36,7 +36,7 @@ pub enum Then {
 }
 
 /// A part of an input that isn't read here: its lines are known by where it begins.
-#[derive(Clone, Copy, Debug, PartialEq, Eq)]
+#[derive(Clone, Copy, PartialEq, Eq)]
 pub enum Part {
     Verdict,
     /// Moves, and what may follow them.

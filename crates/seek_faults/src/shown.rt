@@ -25,7 +25,7 @@ const CODE_FRONTS: [&[u8]; 8] = [
 
 /// A token of a text, as it is shown in a sentence: its first bytes, and a `?` for each that is no printable ASCII. A byte order mark, which
 /// nobody sees, and the minus sign of typeset texts, which looks like another one, are named after it, and so is UTF-16.
-#[derive(Clone, Copy, Debug, PartialEq, Eq)]
+#[derive(Clone, Copy, PartialEq, Eq)]
 pub struct Shown<'a>(pub &'a [u8]);
 
 impl<'a> Shown<'a> {

@@ -12,7 +12,7 @@ use std::{fmt, io};
 use text_items::TextFault;
 
 /// Why the parts of an input can't be had. A name is that of a file, or says what a part is otherwise.
-#[derive(Debug, Drop)]
+#[derive(Drop)]
 pub enum PartFault<'a> {
     /// A file can't be opened or read.
     Read {

@@ -32,7 +32,7 @@ const ONCE: &str =
     "standard input would be read twice: `-` stands for one file only, and a problem that isn't named is read from there too";
 
 /// What is reported on standard error beside what is wrong.
-#[derive(Clone, Copy, Debug, PartialEq, Eq)]
+#[derive(Clone, Copy, PartialEq, Eq)]
 pub enum Talk {
     /// Nothing.
     Quiet,
@@ -61,7 +61,7 @@ pub struct Asked<'a> {
 }
 
 /// The numbers of the options.
-#[derive(Clone, Copy, Debug)]
+#[derive(Clone, Copy)]
 struct Numbers {
     seed: u64,
     steps: u64,

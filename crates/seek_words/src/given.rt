@@ -11,7 +11,7 @@ use clap::ArgMatches;
 use std::alloc::{AllocError, Global};
 
 /// A diagram or a problem as it is given.
-#[derive(Clone, Copy, Debug, PartialEq, Eq)]
+#[derive(Clone, Copy, PartialEq, Eq)]
 pub enum Given<'a> {
     /// In the file of this name; `-` is standard input.
     File(&'a str),
@@ -22,7 +22,7 @@ pub enum Given<'a> {
 }
 
 /// What is to be compared.
-#[derive(Clone, Copy, Debug, PartialEq, Eq)]
+#[derive(Clone, Copy, PartialEq, Eq)]
 pub enum Diagrams<'a> {
     /// The problem in a file.
     Problem(Given<'a>),
@@ -92,14 +92,14 @@ fn argument_of(given: Given) -> &'static str
 }
 
 /// A diagram, and its place among the words.
-#[derive(Clone, Copy, Debug)]
+#[derive(Clone, Copy)]
 struct Placed<'a> {
     place: usize,
     given: Given<'a>,
 }
 
 /// Which way of giving a diagram an argument is.
-#[derive(Clone, Copy, Debug)]
+#[derive(Clone, Copy)]
 enum Way {
     File,
     Braid,

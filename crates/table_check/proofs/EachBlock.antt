@@ -6,7 +6,7 @@ use Rattle.text_items.specs.declared.fault.TextFault.{TextFault}
 use Rattle.text_items.specs.declared.fault.TextFault.TheVariants as fault
 use Rattle.text_items.specs.Reading.{◌>>=◌, Fails}
 use Rattle.evidence_core.specs.declared.blocks.Block.{Block}
-use Rattle.number_text.specs.Evidence.{count_of}
+use Rattle.number_text.specs.EvidenceItems.{count_of}
 use Rattle.table_check.specs.Tables.{count_item, counts_item}
 use Rattle.text_items.proofs.Turns.{with_front, regroup}
 

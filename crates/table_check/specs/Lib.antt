@@ -8,7 +8,8 @@ pub use Rattle.text_items.specs.Reading
 pub use Rattle.text_lines.specs.Lines as TextLines
 pub use Rattle.verdict_text.specs.Diagrams
 pub use Rattle.verdict_text.specs.Moves
-pub use Rattle.number_text.specs.Evidence
+pub use Rattle.number_text.specs.NumberLines
+pub use Rattle.number_text.specs.EvidenceItems
 pub use Rattle.number_text.specs.Blocks
 pub use Rattle.verdict_core.specs.Diagrams as Given
 pub use Rattle.number_check.specs.EvidenceHolds as NumberHolds

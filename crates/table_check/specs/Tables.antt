@@ -12,7 +12,8 @@ use Rattle.text_items.specs.Reading.{◌>>=◌, in_turn, next_line, word, number
 use Rattle.verdict_text.specs.Diagrams.{diagram_item}
 use Rattle.verdict_text.specs.Moves.{moves_item}
 use Rattle.evidence_core.specs.declared.blocks.Block.{Block}
-use Rattle.number_text.specs.Evidence.{seeds_at, numbers_line_at, count_of}
+use Rattle.number_text.specs.NumberLines.{seeds_at, numbers_line_at}
+use Rattle.number_text.specs.EvidenceItems.{count_of}
 use Rattle.number_text.specs.Blocks.{block_item}
 use Rattle.table_check.specs.declared.class_items.Class.{Class}
 use Rattle.table_check.specs.declared.row_items.OpenPair.{OpenPair}

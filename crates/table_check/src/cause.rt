@@ -3,7 +3,7 @@
 use cert_check::Why;
 
 /// The answer of the checker.
-#[derive(Clone, Copy, Debug, PartialEq, Eq)]
+#[derive(Clone, Copy, PartialEq, Eq)]
 pub enum TableRuling {
     /// The table holds.
     Accepted,
@@ -13,7 +13,7 @@ pub enum TableRuling {
 
 /// Why a table does not hold: of the first class that doesn't hold, else the first pair of classes that is said to be of different knots
 /// and isn't distinguished, else the first row that doesn't hold. Classes, blocks, rows and places are counted from 0.
-#[derive(Clone, Copy, Debug, PartialEq, Eq)]
+#[derive(Clone, Copy, PartialEq, Eq)]
 pub enum TableCause {
     /// What is said of this class isn't shown.
     Class { class: usize, cause: ClassCause },
@@ -24,7 +24,7 @@ pub enum TableCause {
 }
 
 /// Why what is said of a class isn't shown: the first of these that holds of its seeds, else of the first block whose numbers aren't shown.
-#[derive(Clone, Copy, Debug, PartialEq, Eq)]
+#[derive(Clone, Copy, PartialEq, Eq)]
 pub enum ClassCause {
     /// The first of its seeds that is no column of its diagram.
     Outside { column: u8 },

@@ -15,7 +15,7 @@ use verdict_core::Diagram;
 use verdict_text::{diagram_item, moves_item};
 
 /// Two classes that are left open: whether they are the same isn't said. They are counted from 0, and the first is the lesser.
-#[derive(Clone, Copy, Debug, PartialEq, Eq)]
+#[derive(Clone, Copy, PartialEq, Eq)]
 pub struct OpenPair {
     pub first: u32,
     pub second: u32,

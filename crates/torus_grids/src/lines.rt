@@ -17,7 +17,7 @@ const LANES: usize = 16;
 const ROOM: usize = PLACES + LANES;
 
 /// The two marks of a column, by their rows, or of a row, by their columns.
-#[derive(Clone, Copy, Debug, PartialEq, Eq)]
+#[derive(Clone, Copy, PartialEq, Eq)]
 pub(crate) struct Marks {
     pub(crate) cross: u8,
     pub(crate) ring: u8,

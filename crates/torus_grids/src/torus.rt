@@ -13,7 +13,7 @@ pub struct Torus {
 }
 
 /// A move that makes no diagram larger.
-#[derive(Clone, Copy, Debug, PartialEq, Eq)]
+#[derive(Clone, Copy, PartialEq, Eq)]
 pub enum TorusMove {
     /// A column and the next one trade places.
     ExchangeColumns(u8),
@@ -24,7 +24,7 @@ pub enum TorusMove {
 }
 
 /// Some legal moves of a diagram, a bit for each: all of some kinds.
-#[derive(Clone, Copy, Debug)]
+#[derive(Clone, Copy)]
 pub struct TorusMoves {
     columns: u64,
     rows: u64,

@@ -1,11 +1,13 @@
 //! Whole calls, a file for each thing that no program shows.
 mod faults;
+mod files;
 mod gate;
 mod lines;
 mod std_ports;
 mod told;
 mod uncalled;
 mod workers;
+mod writes;
 
 use crate::tests::gate::Meeting;
 use crate::tests::lines::words_of;
@@ -33,7 +35,7 @@ fn call<R: Threads + Wait + Sync>(
     let words = words_of(alloc, line)?;
     let mut ports = Ports {
         source: MemSource::new(Vec::from_slice(alloc, input)?, 4096, Vec::new(alloc)),
-        sink: MemSink::new(alloc, 4096, 4096, Vec::new(alloc))?,
+        sink: MemSink::new(alloc, 4096, 4096, Vec::new(alloc)).map_err(|_| "no memory")?,
         kept: kept.take(),
         input: Vec::new(alloc),
     };

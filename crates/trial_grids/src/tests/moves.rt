@@ -111,11 +111,11 @@ fn try_move(grid: &Grid, step: Move, legal: bool) -> Result<(), Fail> {
     match apply(grid, step) {
         Ok(next) => match apply(&next, inverse(grid, step)) {
             Ok(back) if legal && back.same_as(grid) => Ok(()),
-            _ => Err(Fail::from(("no way back, or not legal", step))),
+            _ => Err(Fail::from("no way back, or not legal")),
         },
-        Err(fault) => {
+        Err(_) => {
             if legal {
-                Err(Fail::from(("legal", step, fault)))
+                Err(Fail::from("legal"))
             } else {
                 Ok(())
             }

@@ -29,7 +29,8 @@ fn walked(alloc: Global, seed: u64) -> Result<Vec<Form>, Fail> {
     let grid = Grid::new(
         &[0, 1, 4, 6, 5, 3, 2, 7, 8, 9],
         &[3, 5, 9, 8, 7, 6, 4, 2, 1, 0],
-    )?;
+    )
+    .map_err(|_| "no grid")?;
     let mut torus = Torus::of(&grid);
     let mut generator = Pcg32::new(seed, 54);
     let mut path = Vec::new(alloc);
@@ -51,7 +52,7 @@ fn is_shortened(alloc: Global, path: Vec<Form>, seed: u64) -> Result<bool, Fail>
     let count = path.len();
     let first = path.as_slice().first().copied().ok_or("no form")?;
     let last = path.as_slice().last().copied().ok_or("no form")?;
-    let shorter = shortened(alloc, path, seed)?;
+    let shorter = shortened(alloc, path, seed).map_err(|_| "no memory")?;
     Ok(shorter.len() <= count && has_ends(shorter.as_slice(), first, last))
 }
 

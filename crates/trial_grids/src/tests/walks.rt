@@ -26,7 +26,7 @@ const MIRRORED: Lists = (&[0, 1, 2, 3, 4], &[2, 3, 4, 0, 1]);
 
 /// The grid of two lists of rows, those of the Xs and those of the Os.
 fn grid_of(lists: Lists) -> Result<Grid, Fail> {
-    Ok(Grid::new(lists.0, lists.1)?)
+    Ok(Grid::new(lists.0, lists.1).map_err(|_| "no grid")?)
 }
 
 /// The most steps or forms that two excursions, one of each side, make.
@@ -86,7 +86,7 @@ fn finds_nothing<R: Threads + Sync>(
 ) -> Result<bool, Fail> {
     let near = grid_of(lists.0)?;
     let far = grid_of(lists.1)?;
-    let found = find_joining_by(rt, alloc, &near, &far, plan, watch)?;
+    let found = find_joining_by(rt, alloc, &near, &far, plan, watch).map_err(|_| "no memory")?;
     Ok(found.is_none())
 }
 
@@ -121,7 +121,7 @@ fn found<R: Threads + Sync>(rt: &R, alloc: Global, workers: u32) -> Result<Vec<M
     let far = grid_of(FIGURE_EIGHT)?;
     let plan = plan_of(1000000, 262144, workers);
     let mut watch = Counting::new();
-    let found = find_joining_by(rt, alloc, &near, &far, plan, &mut watch)?;
+    let found = find_joining_by(rt, alloc, &near, &far, plan, &mut watch).map_err(|_| "no memory")?;
     Ok(found.ok_or("none")?)
 }
 

@@ -1,8 +1,8 @@
 //! Calls with the words of a line, over a source and a sink in memory.
 use knot_jobs::{Ports, run_alone};
 use knot_ports::{MemSink, MemSource, Status};
-use memory_core::OutOfMemory;
 use std::alloc::{AllocError, Global};
+use std::test::Fail;
 
 /// Which calls of a source and a sink fail, and how many bytes the sink has room for.
 #[derive(Clone, Copy)]
@@ -27,13 +27,13 @@ pub(crate) fn run_line(
     line: &str,
     input: &[u8],
     outside: &Outside,
-) -> Result<(Status, Vec<u8>), OutOfMemory> {
+) -> Result<(Status, Vec<u8>), Fail> {
     let words = words_of(alloc, line)?;
     let reading = Vec::from_slice(alloc, outside.reading)?;
     let writing = Vec::from_slice(alloc, outside.writing)?;
     let mut ports = Ports {
         source: MemSource::new(Vec::from_slice(alloc, input)?, 4, reading),
-        sink: MemSink::new(alloc, 3, outside.room, writing)?,
+        sink: MemSink::new(alloc, 3, outside.room, writing).map_err(|_| "no memory")?,
         kept: None,
         input: Vec::new(alloc),
     };

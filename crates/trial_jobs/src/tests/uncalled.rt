@@ -49,7 +49,7 @@ fn are_edges_coloured(
     if !known {
         return Ok(false);
     }
-    let found = edge_colours(alloc, grid, quandle, &colours)?;
+    let found = edge_colours(alloc, grid, quandle, &colours).map_err(|_| "no memory")?;
     Ok(found.as_slice() == edges)
 }
 

@@ -1,7 +1,7 @@
 use Rattle.std.proofs.lemmas.Result.{err_from_is_err_and}
 use Rattle.std.proofs.Common.{ap, ◌∙◌}
 use Rattle.evidence_core.specs.declared.blocks.Block.{Block}
-use Rattle.number_text.specs.Evidence.{count_of}
+use Rattle.number_text.specs.EvidenceItems.{count_of}
 use Rattle.table_check.specs.Tables.{counts_item}
 use Rattle.table_check.proofs.EachBlock.{each_more, each_fails, each_done}
 use Rattle.table_check.proofs.class_items.counts_item.Goals as goal

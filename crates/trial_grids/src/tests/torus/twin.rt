@@ -128,7 +128,7 @@ fn compare_translates(rt: &impl Abort, grid: &Grid) {
 
 #[test]
 fn moves_in_place_are_those_of_grids(rt: HostRuntime) -> Result<(), Fail> {
-    let mut grid = Grid::new(&[4, 3, 2, 1, 0], &[2, 1, 0, 4, 3])?;
+    let mut grid = Grid::new(&[4, 3, 2, 1, 0], &[2, 1, 0, 4, 3]).map_err(|_| "no grid")?;
     let mut generator = Pcg32::new(1, 54);
     for _move in 0..MOVES {
         compare_exchanges(&rt, &grid);
@@ -142,7 +142,7 @@ fn moves_in_place_are_those_of_grids(rt: HostRuntime) -> Result<(), Fail> {
 
 #[test]
 fn forms_tell_diagrams_apart_as_keys_do(rt: HostRuntime) -> Result<(), Fail> {
-    let mut grid = Grid::new(&[3, 4, 0, 5, 2, 1], &[5, 2, 3, 1, 0, 4])?;
+    let mut grid = Grid::new(&[3, 4, 0, 5, 2, 1], &[5, 2, 3, 1, 0, 4]).map_err(|_| "no grid")?;
     let mut generator = Pcg32::new(2, 54);
     for _move in 0..MOVES {
         let key = canonical_key(&grid).key;

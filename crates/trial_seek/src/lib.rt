@@ -1,5 +1,0 @@
-//! Tests of seek_core and seek_parts.
-#![tactic(auto)]
-
-#[cfg(test)]
-mod tests;

@@ -1,3 +1,0 @@
-//! Steps at which writing a file fails, and a write that fails.
-mod files;
-mod writes;
