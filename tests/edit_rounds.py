@@ -133,9 +133,31 @@ def judged(place, lines):
     return (REFUSED, why[0]) if why else (UNSURE, told)
 
 
-def split_by_function(names, places):
-    """The first of these edits in each function, and the others."""
-    now, later, taken = [], [], set()
+def unproved_calls(lines):
+    """By function, as a check says it, the functions that it calls and that are not proved."""
+    found = {}
+    for line in lines:
+        told = re.match(r"fn (\S+): (?:not proved|no proof)(.*)", line)
+        for called in re.findall(r"(?:it calls|it passes|a call of) (.*?)(?:, which|$)", told[2]) if told else ():
+            found.setdefault(told[1], set()).update(re.findall(r"\w+(?:::\w+)+", called))
+    return found
+
+
+def below(function, calls):
+    """The functions that a function calls, or that these call, without itself."""
+    found, left = set(), [function]
+    while left:
+        new = calls.get(left.pop(), set()) - found
+        found |= new
+        left += new
+    return found - {function}
+
+
+def split_by_function(names, places, calls):
+    """The first of these edits in each function that calls no other function with such an edit, as far as is known, and the others."""
+    functions = {places[name].function for name in names}
+    held = {it for it in functions if below(it, calls) & functions}
+    now, later, taken = [], [], held if held != functions else set()
     for name in names:
         (later if places[name].function in taken else now).append(name)
         taken.add(places[name].function)
@@ -144,10 +166,10 @@ def split_by_function(names, places):
 
 def tried_together(places, check):
     """The names of those of these edits that are refused, each with the line that says why. `check` gives what rt says with the named edits in place."""
-    waiting, rounds = list(places), []
+    waiting, rounds, calls = list(places), [], {}
     while waiting or rounds:
         if not rounds:
-            now, waiting = split_by_function(waiting, places)
+            now, waiting = split_by_function(waiting, places, calls)
             rounds.append(now)
         now = rounds.pop()
         lines = check(now)
@@ -160,6 +182,8 @@ def tried_together(places, check):
             elif len(now) > 1:
                 rounds += [now[len(now) // 2 :], now[: len(now) // 2]]
             continue
+        for function, called in unproved_calls(lines).items():
+            calls.setdefault(function, set()).update(called)
         found = {name: judged(places[name], lines) for name in now}
         yield from ((name, why) for name, (kind, why) in found.items() if kind == REFUSED)
         waits = [name for name in now if found[name][0] == WAITS]
@@ -187,10 +211,19 @@ def crates_at_or_below(top, crate):
     return found
 
 
+def move_made(source, target):
+    """Moves what rt has made of a crate from one of its folders to another."""
+    for part in ("incremental", "rlib"):
+        if os.path.isdir(f"{source}/out/{part}"):
+            os.makedirs(f"{target}/out", exist_ok=True)
+            shutil.rmtree(f"{target}/out/{part}", ignore_errors=True)
+            os.rename(f"{source}/out/{part}", f"{target}/out/{part}")
+
+
 @contextlib.contextmanager
-def tree_for(copy, crate):
-    """A tree in which edits of a crate are put in place: links to the files and libraries below it, and copies of its own files and of the work that its
-    last check kept, so that nothing of the copy changes."""
+def tree_for(copy, crate, kept=("out/incremental",)):
+    """A tree of its own for a crate: links to the files and libraries below it, and copies of its own files and of what was kept of it, so that nothing
+    of the copy changes."""
     top = f"{copy}/crates/{crate}/out/edits"
     shutil.rmtree(top, ignore_errors=True)
     os.makedirs(top)
@@ -200,7 +233,7 @@ def tree_for(copy, crate):
             file.writelines(found.values())
         shutil.copy2(f"{copy}/HANDLES", f"{top}/HANDLES")
         for name in found:
-            for part in (*PARTS, "out/incremental" if name == crate else "out/rlib"):
+            for part in (*PARTS, *(kept if name == crate else ("out/rlib",))):
                 if os.path.isdir(f"{copy}/crates/{name}/{part}"):
                     how = shutil.copy2 if name == crate else link_or_copy
                     shutil.copytree(f"{copy}/crates/{name}/{part}", f"{top}/crates/{name}/{part}", copy_function=how)

@@ -3,12 +3,15 @@
 
     tests/edits.py                       those of all crates, lowest first
     tests/edits.py grid_core text_lines  those of some crates
+    tests/edits.py --jobs 4 [NAME..]     four crates at a time
     tests/edits.py --alone [NAME..]      each by a check of its own
     tests/edits.py --keep DIR            the copy is made in DIR, and is used again
     tests/edits.py --stand [NAME..]      only checks, in a second, that each edit can be applied, those of must-fail/ too
 
 A copy is made of the files that git tracks in crates/, of crates.txt and of HANDLES, as they are in the work tree. There each crate
-is proved by `rt check`, since an edit of a crate that isn't proved would be refused whatever it does.
+is proved once, by `rt lib` if others use it and else by `rt check`, since an edit of a crate that isn't proved would be refused
+whatever it does. What `rt` has built in the work tree is taken over, so a tree in which tools/build.py has built knot and seek saves
+these proofs; what `rt ci` has kept saves none, since only `rt ci` reads it.
 
 Then edits that change the body of one function are tried together, in a tree beside the copy: one `rt check --only` has one in each
 function, and an edit is refused where its function isn't proved, an error is in that function, and no function that it calls is
@@ -33,6 +36,7 @@ exit status:
   128 + N  stopped by signal N
 """
 import argparse
+import concurrent.futures
 import contextlib
 import fcntl
 import hashlib
@@ -45,7 +49,6 @@ import sys
 import tempfile
 import threading
 from collections import Counter
-from concurrent.futures import ThreadPoolExecutor
 
 import edit_rounds
 
@@ -263,8 +266,10 @@ class Kept:
 class Trial:
     """How the edits of crates are tried over a copy."""
 
-    def __init__(self, copy, edits, runs, is_alone):
+    def __init__(self, copy, edits, runs, jobs, is_alone):
         self.copy, self.edits, self.runs, self.is_alone, self.lock = copy, edits, runs, is_alone, threading.Lock()
+        # (with one crate at a time rt chooses how many processors it takes)
+        self.flags = ["--jobs", "1"] if jobs > 1 else []
         with runs.started(["rt", "version"], copy) as run:
             self.kept = Kept(copy, run.stdout.read())
 
@@ -273,32 +278,47 @@ class Trial:
             print(text, flush=True)
 
     def take_over(self, crate):
-        """Gives the copy the libraries that rt built in the work tree, and what it kept of the crate there: rt itself looks whether they fit."""
-        with self.lock:
-            for name in edit_rounds.crates_at_or_below(self.copy, crate):
-                here, there = (f"{top}/crates/{name}/out" for top in (TOP, self.copy))
-                stamps = [bytes_of(f"{it}/rlib/stamp") if os.path.isfile(f"{it}/rlib/stamp") else b"" for it in (here, there)]
-                if stamps[0] and stamps[0] != stamps[1]:
-                    shutil.rmtree(f"{there}/rlib", ignore_errors=True)
-                    shutil.copytree(f"{here}/rlib", f"{there}/rlib", copy_function=edit_rounds.link_or_copy)
-                if name == crate and os.path.isdir(f"{here}/incremental") and not os.path.isdir(f"{there}/incremental"):
-                    shutil.copytree(f"{here}/incremental", f"{there}/incremental")
+        """Gives the copy the library that rt built of the crate in the work tree, and what it kept there: rt itself looks whether they fit."""
+        here, there = (f"{top}/crates/{crate}/out" for top in (TOP, self.copy))
+        stamps = [bytes_of(f"{it}/rlib/stamp") if os.path.isfile(f"{it}/rlib/stamp") else b"" for it in (here, there)]
+        if stamps[0] and stamps[0] != stamps[1]:
+            shutil.rmtree(f"{there}/rlib", ignore_errors=True)
+            shutil.copytree(f"{here}/rlib", f"{there}/rlib", copy_function=edit_rounds.link_or_copy)
+        if os.path.isdir(f"{here}/incremental") and not os.path.isdir(f"{there}/incremental"):
+            shutil.copytree(f"{here}/incremental", f"{there}/incremental")
 
     def refuse(self, found, crate, name, why):
         found[name] = "refused"
         self.kept.keep(crate, self.edits[crate][name], why)
 
-    def proved(self, crate):
-        """What rt says of the crate, or None where it isn't proved: then that is printed."""
-        with self.runs.started(["rt", "check"], f"{self.copy}/crates/{crate}") as run:
+    def said(self, verb, folder):
+        """What rt says of the crate whose folder this is, or None where it isn't proved: then that is printed."""
+        with self.runs.started(["rt", verb, *self.flags], folder) as run:
             said = run.stdout.read()
         if run.returncode:
             self.say(said.rstrip("\n"))
         return None if run.returncode else said.splitlines()
 
+    def proved(self, crate, is_used, is_tried):
+        """What rt says of a crate above crates that are proved, or None where it isn't.
+
+        It is proved in a tree of its own, since rt lets two commands work side by side only if they share no crate; what is made goes to the copy.
+        A library that was built before is not built again, and rt says nothing of it."""
+        self.take_over(crate)
+        own = f"{self.copy}/crates/{crate}"
+        with edit_rounds.tree_for(self.copy, crate, ()) as folder:
+            edit_rounds.move_made(own, folder)
+            try:
+                lines = self.said("lib", folder) if is_used else []
+                if lines is not None and is_tried and not proved_functions(lines):
+                    lines = self.said("check", folder)
+            finally:
+                edit_rounds.move_made(folder, own)
+        return lines
+
     def together(self, crate, lines, found):
         """Tries together those edits of the crate that are left and that one body has, and gives the number of checks that took."""
-        functions = re.findall(r"(?m)^fn (\S+): proved$", "\n".join(lines))
+        functions = proved_functions(lines)
         edits = {name: text for name, text in self.edits[crate].items() if found[name] != "refused"}
         places = {name: edit_rounds.place_of(text, f"{self.copy}/crates/{crate}", crate, functions) for name, text in edits.items()}
         places = {name: place for name, place in places.items() if place}
@@ -339,8 +359,8 @@ class Trial:
                         self.refuse(found, crate, said[1], line.rstrip("\n"))
         return run.returncode == 0
 
-    def crate(self, crate):
-        """A verdict for each edit of the crate, by name, and whether rt is content."""
+    def known(self, crate):
+        """A verdict for each edit of the crate, by name: refused where an earlier run has seen that."""
         self.say(f"{crate}: to be tried: {len(self.edits[crate])}")
         found = dict.fromkeys(self.edits[crate], "NOT TRIED")
         for name, text in self.edits[crate].items():
@@ -348,19 +368,38 @@ class Trial:
             if why is not None:
                 found[name] = "refused"
                 self.say(f"{crate}/{name}: refused by an earlier run: {why[:200]}")
-        checks, together, is_content = 0, 0, True
-        if set(found.values()) != {"refused"}:
-            self.take_over(crate)
-            lines, earlier = self.proved(crate), Counter(found.values())["refused"]
-            if lines is None:
-                self.say(f"{crate}: it isn't proved, so none of its other edits was tried")
-                return found, False
-            checks = 0 if self.is_alone else self.together(crate, lines, found)
-            together = Counter(found.values())["refused"] - earlier
-            if set(found.values()) != {"refused"}:
-                is_content = self.alone(crate, found)
+        return found
+
+    def tried(self, crate, lines, found):
+        """Tries the edits of a crate that are left, and gives whether rt is content. `lines` is what rt says of the crate, or None where it isn't proved."""
+        if lines is None:
+            self.say(f"{crate}: it, or a crate that it uses, isn't proved, so none of its other edits was tried")
+            return False
+        earlier = Counter(found.values())["refused"]
+        checks = 0 if self.is_alone else self.together(crate, lines, found)
+        together = Counter(found.values())["refused"] - earlier
+        is_content = set(found.values()) == {"refused"} or self.alone(crate, found)
         self.say(f"{crate}: {counted(found.values())}; {together} by {checks} checks of many")
-        return found, is_content
+        return is_content
+
+    def tasks(self, found):
+        """What is to be done for crates whose verdicts are these, some of them without one yet: for in_order."""
+        below = {crate: set(edit_rounds.crates_at_or_below(self.copy, crate)) for crate in found}
+        used = set().union(*(names - {crate} for crate, names in below.items()))
+        tasks = {}
+        for crate in crates_in_order():
+            if crate in found or crate in used:
+                needs = {("proved", name) for name in edit_rounds.crates_at_or_below(self.copy, crate)} - {("proved", crate)}
+                tasks["proved", crate] = needs, lambda done, it=crate, own=needs: (
+                    None if any(done[name] is None for name in own) else self.proved(it, it in used, it in found))
+            if crate in found:
+                tasks["tried", crate] = {("proved", crate)}, lambda done, it=crate: self.tried(it, done["proved", it], found[it])
+        return tasks
+
+
+def proved_functions(lines):
+    """The functions that rt says are proved, by its names."""
+    return re.findall(r"(?m)^fn (\S+): proved$", "\n".join(lines))
 
 
 def counted(verdicts):
@@ -368,23 +407,39 @@ def counted(verdicts):
     return ", ".join(f"{counts[verdict]} {verdict}" for verdict in VERDICTS)
 
 
+def in_order(tasks, jobs, pool):
+    """What tasks give, by name: so many are done at a time, each after those that it waits for, and of two that can be begun the first one. A task is the
+    names of those, and a call that gets what was given so far."""
+    done, running = {}, {}
+    while len(done) < len(tasks):
+        for name, (needs, call) in tasks.items():
+            if len(running) < jobs and name not in done and name not in running.values() and needs <= done.keys():
+                running[pool.submit(call, done)] = name
+        if not running:
+            raise CallError("crates.txt has crates that use one another")
+        for ended in concurrent.futures.wait(running, return_when=concurrent.futures.FIRST_COMPLETED).done:
+            done[running[ended]] = ended.result()
+            del running[ended]
+    return done
+
+
 def try_all(copy, crates, edits, jobs, is_alone):
     """The exit status for the edits of these crates."""
-    runs, all_found, is_content, asked = Runs(), [], True, []
-    pool = ThreadPoolExecutor(jobs)
+    runs, pool = Runs(), concurrent.futures.ThreadPoolExecutor(jobs)
     try:
-        trial = Trial(copy, edits, runs, is_alone)
-        asked = [pool.submit(trial.crate, crate) for crate in crates]
-        for found, is_well in (it.result() for it in asked):
-            all_found += found.values()
-            is_content = is_content and is_well
+        trial = Trial(copy, edits, runs, jobs, is_alone)
+        found = {crate: trial.known(crate) for crate in crates}
+        tasks = trial.tasks({crate: verdicts for crate, verdicts in found.items() if set(verdicts.values()) != {"refused"}})
+        if jobs > 1:
+            # (the longest chain is one of proofs)
+            tasks = dict(sorted(tasks.items(), key=lambda task: task[0][0]))
+        done = in_order(tasks, jobs, pool)
     finally:
-        for it in asked:
-            it.cancel()
         runs.end()
         pool.shutdown()
+    all_found = [verdict for verdicts in found.values() for verdict in verdicts.values()]
     print(f"in all: {counted(all_found)}", flush=True)
-    return 0 if is_content and set(all_found) <= {"refused"} else 1
+    return 0 if all(done.get(("tried", crate), True) for crate in crates) and set(all_found) <= {"refused"} else 1
 
 
 def main():

@@ -41,7 +41,9 @@ if words == ["version"]:
     sys.exit(print("the stand-in"))
 with open({calls!r}, "a") as calls:
     calls.write(" ".join(words) + " in " + name + "\\n")
-if words[0] == "check":
+if words[0] == "lib" and os.path.exists("out/rlib/stamp"):
+    sys.exit(0)
+if words[0] in ("check", "lib"):
     with open("src/lib.rt") as file:
         rows = file.read().split("\\n")
     found, body = {{}}, None
@@ -54,8 +56,9 @@ if words[0] == "check":
         if os.path.exists("src/unproved"):
             print("./src/lib.rt:1:1: error: `f.ensures`: not proved")
             sys.exit(1)
-        os.makedirs("out/incremental", exist_ok=True)
-        open("out/incremental/work", "a").close()
+        for made in ("incremental/work", "rlib/stamp")[:1 + (words[0] == "lib")]:
+            os.makedirs("out/" + made.split("/")[0], exist_ok=True)
+            open("out/" + made, "a").close()
         print(*[f"fn {{it}}: proved" for it in found], sep="\\n")
         sys.exit(0)
     asked = [it for it in words[words.index("--only") + 1 :: 2]]
@@ -208,9 +211,18 @@ class Verdicts(EditsTest):
         self.put("crates/low/src/unproved", "")
         status, lines, _ = self.run_it()
         self.assertEqual(status, 1)
-        self.assertEqual(lines[-1], "in all: 1 refused, 0 NOT REFUSED, 0 BAD EDIT, 1 NOT TRIED")
+        self.assertEqual(lines[-1], "in all: 0 refused, 0 NOT REFUSED, 0 BAD EDIT, 2 NOT TRIED")
         self.assertIn("./src/lib.rt:1:1: error: `f.ensures`: not proved", lines)
-        self.assertNotIn("must-fail low in copy", self.calls_made())
+        for crate in ("low", "high"):
+            self.assertIn(f"{crate}: it, or a crate that it uses, isn't proved, so none of its other edits was tried", lines)
+        self.assertEqual(self.calls_made(), ["lib in low"])
+
+    def test_the_edits_below_a_crate_that_is_not_proved_are_tried(self):
+        self.edit("low", "one", "refused")
+        self.edit("high", "two", "refused")
+        self.put("crates/middle/src/unproved", "")
+        status, lines, _ = self.run_it()
+        self.assertEqual((status, lines[-1]), (1, "in all: 1 refused, 0 NOT REFUSED, 0 BAD EDIT, 1 NOT TRIED"))
 
 
 class Together(EditsTest):
@@ -254,6 +266,13 @@ class Together(EditsTest):
         self.bodies(a=(1, "refused"), b=(1, "refused"), c=(2, "refused"))
         self.assertEqual(self.run_low()[0], 0)
         self.assertEqual(self.checks(), ["one two", "one"])
+
+    def test_a_function_is_left_out_while_one_that_it_calls_has_edits(self):
+        self.put("crates/low/src/lib.rt", re.sub(r"impl Three \{\n    (.*\n.*\n)    \}\n", r"\1", CODE).replace("#[cycle(four)]\n", ""))
+        self.bodies(a=(1, "calls two"), b=(2, "calls three"), c=(3, "refused"), d=(3, "refused"), e=(4, "refused"), f=(4, "refused"))
+        status, lines = self.run_low()
+        self.assertEqual((status, lines[-1]), (0, "in all: 6 refused, 0 NOT REFUSED, 0 BAD EDIT, 0 NOT TRIED"))
+        self.assertEqual(self.checks(), ["one two three four", "three four", "two", "one"])
 
     def test_an_error_in_a_proof_file_of_the_function_is_one_of_its_own(self):
         self.bodies(a=(1, "answers"))
@@ -333,6 +352,19 @@ class Together(EditsTest):
         self.assertEqual(self.text(self.copy, "crates/low/out/incremental/work"), "kept")
         self.assertEqual(sorted(os.listdir(os.path.join(self.copy, "crates", "low", "out"))), ["incremental"])
         self.assertEqual(self.text(self.top, "crates/low/src/lib.rt"), CODE)
+
+    def test_what_was_built_in_the_work_tree_is_not_built_again(self):
+        self.bodies(a=(1, "refused"))
+        self.edit("high", "two", "refused")
+        self.put(".gitignore", "out/\n")
+        for crate in ("low", "middle"):
+            self.put(f"crates/{crate}/out/rlib/stamp", "the same")
+            self.put(f"crates/{crate}/out/incremental/work", "kept")
+        self.assertEqual(self.run_low()[0], 0)
+        self.assertEqual([call for call in self.calls_made() if not call.startswith("must-fail")],
+                         ["lib in low", "check in low", "check --jobs 1 --only low::one in low", "lib in middle", "check in high"])
+        self.assertEqual(self.text(self.copy, "crates/low/out/rlib/stamp"), "the same")
+        self.assertEqual(self.text(self.copy, "crates/middle/out/incremental/work"), "kept")
 
     def test_crates_side_by_side_have_the_same_verdicts(self):
         self.bodies(a=(1, "refused"), b=(2, "missed"))
@@ -445,7 +477,20 @@ class Crates(EditsTest):
         self.edit("high", "one", "refused")
         self.edit("low", "two", "refused")
         self.assertEqual(self.run_it("--keep", self.copy)[0], 0)
-        self.assertEqual(self.calls_made(), ["check in low", "must-fail low in copy", "check in high", "must-fail high in copy"])
+        self.assertEqual(self.calls_made(), ["lib in low", "must-fail low in copy", "lib in middle", "check in high", "must-fail high in copy"])
+
+    def test_with_several_at_a_time_each_is_proved_once_after_those_that_it_uses(self):
+        for crate in ("low", "middle", "high"):
+            self.edit(crate, "one", "refused")
+        self.assertEqual(self.run_it("--keep", self.copy, "--jobs", "4")[0], 0)
+        proofs = [call for call in self.calls_made() if not call.startswith("must-fail")]
+        self.assertEqual(proofs, ["lib --jobs 1 in low", "lib --jobs 1 in middle", "check --jobs 1 in high"])
+        self.assertEqual(sorted(os.listdir(os.path.join(self.copy, "crates", "low", "out"))), ["incremental", "rlib"])
+
+    def test_crates_that_use_one_another_end_it(self):
+        self.put("crates.txt", "low: high\nmiddle: low\nhigh: middle low\n")
+        self.edit("low", "one", "refused")
+        self.assertEqual(self.run_it()[::2], (2, "edits.py: crates.txt has crates that use one another\n"))
 
     def test_those_that_are_named_are_tried_alone(self):
         self.edit("high", "one", "missed")
