@@ -33,7 +33,6 @@ import tempfile
 from concurrent.futures import ThreadPoolExecutor
 
 from lib import calls
-from lib.batch_programs import list_of
 from lib.identify_inputs import sentence_of
 from lib.identify_programs import use_programs
 from knot_workbench.answers import ANSWERED, UNKNOWN, Answer
@@ -41,7 +40,7 @@ from knot_workbench.certificates import check, put_whole
 from knot_workbench.diagrams import Lines, diagram_text, mirror_image, quandle_text, read_diagram, read_quandles, reverse
 from knot_workbench.faults import Failed, Fault, NoFile, NoProgram, OverLimit, Rejected, not_utf8
 from knot_workbench.given import grid_by
-from knot_workbench.programs import path_of, run
+from knot_workbench.programs import default_cocycles, path_of, run
 from knot_workbench.sources import grid_named
 
 NAME = "seek"
@@ -146,8 +145,8 @@ def turned_problem(problem, is_mirrored, is_reversed):
 
 
 def seek_words(passed):
-    """The words for seek, to which the list is added that its launcher would name."""
-    listed = None if any(word.partition("=")[0] == "--weights" for word in passed) else list_of(path_of(NAME))
+    """The words for seek, among them the default cocycles, if it counts by them."""
+    listed = default_cocycles(path_of(NAME), passed)
     return [*([f"--weights={listed}"] if listed else []), *passed, "-"]
 
 

@@ -16,7 +16,7 @@ from .diagrams import (MAX_LARGE_ORDER, Braid, Diagram, Grid, Lines, Move, Quand
 from .faults import BadCode, BadText, Fault, NoJob, Wide
 from .given import diagram as diagram_given
 from .given import grid_by
-from .programs import answered, weights_in_tree
+from .programs import answered, default_cocycles, path_of
 from .ready import ready, ready_file, ready_names
 
 # A quandle, its name as in a line `quandle`, or the rows of its table.
@@ -119,11 +119,12 @@ def lines_of(job: str, text: str, words: Sequence[str] = ()) -> Lines:
 # ---- searches
 
 def weights_words(files: Optional[Sequence[str]]) -> List[str]:
-    """The words that name files of quandles with cocycles, or the tree's own list where no files are meant."""
+    """The words that name files of quandles with cocycles; for None those that the seek which is called counts by, for () none."""
     if isinstance(files, (str, os.PathLike)):
         files = [os.fspath(files)]
     if files is None:
-        files = weights_in_tree()
+        listed = default_cocycles(path_of("seek"))
+        files = [listed] if listed else []
     elif not isinstance(files, (list, tuple)):
         raise NoJob(f"weights names files, and {files!r:.40} is no list of such")
     elif not files:
@@ -139,7 +140,7 @@ def problem_text(first: Diagram, second: Diagram, quandles: Quandles = ()) -> st
 def seek(first: DiagramLike, second: DiagramLike, quandles: Quandles = (), *, weights: Optional[Sequence[str]] = None, seed: Optional[int] = None,
          steps: Optional[int] = None, room: Optional[int] = None, workers: Optional[int] = None, timeout: Optional[float] = None) -> Optional[Certificate]:
     """Seeks evidence by numbers, by quandles, those given first, and by random walks. The certificate, or None where nothing was found, which
-    says nothing of the two. `weights` names files of quandles with cocycles; None means the list of the tree or of the prefix, () none.
+    says nothing of the two. `weights` names files of quandles with cocycles; None means the default cocycles of the tree or of the prefix, () none.
     The options are those of the program `seek`; raises TimedOut after `timeout` seconds."""
     first, second = diagram_given(first), diagram_given(second)
     words = [*weights_words(weights), *options_of(seed=seed, steps=steps, room=room, workers=workers)]

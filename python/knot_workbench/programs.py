@@ -13,6 +13,9 @@ NAMES = ("knot", "seek")
 # The folder of this module, in a tree python/knot_workbench, and installed below PREFIX/lib.
 HERE = os.path.dirname(os.path.realpath(__file__))
 
+# The default cocycles, from the folder of a tree or of what is shared by an installation: a file of quandles with cocycles.
+COCYCLES = os.path.join("quandles", "weights", "list.txt")
+
 _given: Dict[str, str] = {}
 
 # The programs that run, and whether `end_calls` was called.
@@ -66,12 +69,24 @@ def path_of(name: str) -> str:
     raise NoProgram(f"there is no built program {name}: build it with tools/build.py, or name it by the variable {name.upper()}")
 
 
-def weights_in_tree() -> List[str]:
-    """The list of quandles with cocycles of the tree, where the seek that is called is the one that was built there: a launcher, or the command
-    of a prefix, names its list by itself."""
-    top = os.path.dirname(os.path.dirname(HERE))
-    file = os.path.join(top, "quandles", "weights", "list.txt")
-    return [file] if os.path.isfile(file) and path_of("seek") == os.path.join(top, "crates", "seek", "out", "seek") else []
+def default_cocycles(program: str, words: Sequence[str] = ()) -> Optional[str]:
+    """The default cocycles of a seek, which is given by its path or its name on PATH: the file of the tree whose launcher it is or in which it
+    was built, or of the prefix in which it is installed. None for a program that belongs to no tree and no installation, and if one of these
+    words is --weights or --no-weights."""
+    if any(word.partition("=")[0] in ("--weights", "--no-weights") for word in words):
+        return None
+    found = shutil.which(program) or program
+    places = [*homes_of_seek(os.path.abspath(found)), *homes_of_seek(os.path.realpath(found))]
+    return next((path for path in (os.path.join(place, COCYCLES) for place in places) if os.path.isfile(path)), None)
+
+
+def homes_of_seek(path: str) -> List[str]:
+    """The tree to which a seek belongs by this path, or the folder of what its installation shares; none for another program."""
+    folder, name = os.path.split(path)
+    above = os.path.dirname(folder)
+    tree = os.path.dirname(os.path.dirname(above)) if folder.endswith(os.path.join("crates", "seek", "out")) else folder
+    marks = {tree: os.path.join(tree, "crates.txt"), os.path.join(above, "share", "knot-workbench"): os.path.join(above, "lib", "knot-workbench", "seek")}
+    return [place for place, mark in marks.items() if name == "seek" and os.path.isfile(mark)]
 
 
 def run(name: str, words: Sequence[str], text: str, timeout: Optional[float] = None) -> Ran:

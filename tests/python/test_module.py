@@ -338,6 +338,50 @@ class Faults(Case):
             self.assertIn(os.path.join(self.folder, "bin", "knot"), programs.candidates("knot"))
 
 
+class DefaultCocycles(Case):
+    """A tree with the launcher and the program that was built, an installation, and programs elsewhere."""
+
+    def setUp(self):
+        super().setUp()
+        for path in ("tree/seek", "tree/knot", "tree/crates/seek/out/seek", "prefix/bin/seek", "prefix/lib/knot-workbench/seek", "other/seek"):
+            os.makedirs(os.path.dirname(self.path(path)), exist_ok=True)
+            os.symlink(STAND_IN, self.path(path))
+        self.tree, self.prefix = (self.path(f"{place}/{programs.COCYCLES}") for place in ("tree", "prefix/share/knot-workbench"))
+        for path in (self.path("tree/crates.txt"), self.tree, self.prefix, self.path(f"other/{programs.COCYCLES}")):
+            os.makedirs(os.path.dirname(path), exist_ok=True)
+            with open(path, "w", encoding="utf-8"):
+                pass
+
+    def found(self, program, *words):
+        return programs.default_cocycles(self.path(program), words)
+
+    def test_a_seek_has_those_of_its_tree_or_of_its_installation(self):
+        os.unlink(self.path("tree/seek"))
+        with open(self.path("tree/seek"), "w", encoding="utf-8") as out:
+            out.write("#!/bin/sh\n")
+        os.symlink(self.path("tree/seek"), self.path("link"))
+        due = {"tree/seek": self.tree, "tree/crates/seek/out/seek": self.tree, "link": self.tree, "prefix/bin/seek": self.prefix,
+               "other/seek": None, "tree/knot": None, "prefix/lib/knot-workbench/seek": None, "nowhere/seek": None}
+        self.assertEqual({program: self.found(program) for program in due}, due)
+        with variables(PATH=self.path("prefix/bin")):
+            self.assertEqual(programs.default_cocycles("seek"), self.prefix)
+        os.unlink(self.tree)
+        self.assertIsNone(self.found("tree/seek"))
+
+    def test_words_that_say_what_is_counted_by(self):
+        for words in (["--weights", "a"], ["--weights=a"], ["--no-weights"], ["--seed", "2", "--no-weights"]):
+            self.assertIsNone(self.found("tree/seek", *words), words)
+        self.assertEqual(self.found("tree/seek", "--quandles", "a", "--seed=2"), self.tree)
+
+    def test_the_module_names_them_as_other_files(self):
+        for program, weights, due in (("tree/seek", None, f"--weights={self.tree} "), ("other/seek", None, ""), ("tree/seek", (), "--no-weights "),
+                                      ("tree/seek", "a.txt", "--weights=a.txt ")):
+            kw.use(seek=self.path(program))
+            with self.says(1):
+                self.assertIsNone(kw.seek(TREFOIL, WORD, weights=weights))
+            self.assertEqual(self.got()[0], f"--quiet {due}-")
+
+
 class Sources(Case):
     def test_a_planar_diagram_code(self):
         with self.says(0, TREFOIL.text):

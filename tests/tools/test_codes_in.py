@@ -82,6 +82,15 @@ class CodesIn(unittest.TestCase):
         self.assertEqual((status, errors), (1, ""))
         self.assertEqual(out, f"--pd\n{TREFOIL}\n--pd\n{UNKNOTS}\n--seed\n2\n")
 
+    def test_seek_is_given_the_default_cocycles_of_its_tree(self):
+        listed = os.path.join(self.folder, "quandles", "weights", "list.txt")
+        os.makedirs(os.path.dirname(listed))
+        for path in (listed, os.path.join(self.folder, "crates.txt")):
+            with open(path, "w", encoding="utf-8"):
+                pass
+        for word, due in (("--quiet", f"--weights={listed}\n"), ("--no-weights", "")):
+            self.assertEqual(self.call("regina", "trefoil", "unknots", "--", word)[1], f"{due}--pd\n{TREFOIL}\n--pd\n{UNKNOTS}\n{word}\n")
+
     def test_what_is_no_link_is_told(self):
         for expression, reason in (("nothing", "the link has no component"), ("odd", "it has no planar diagram code: BadCode"),
                                    ("1 + 1", "it has no planar diagram code: BadCode"), ("no_such_name", "NameError: name 'no_such_name' is not defined")):

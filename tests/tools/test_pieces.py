@@ -98,6 +98,14 @@ class PiecesTest(unittest.TestCase):
         status, _, _ = self.pieces("run", "run", f"1-{-(-len(table) // each)}", "--processes", "2")
         self.assertEqual(status, 0)
 
+    def tree(self, program, cocycles):
+        """A tree with this program as its seek and this file as its default cocycles: the path of the program there."""
+        for path, target in (("tree/crates/seek/out/seek", program), ("tree/quandles/weights/list.txt", cocycles)):
+            os.makedirs(os.path.dirname(self.path(path)))
+            os.symlink(os.path.abspath(target), self.path(path))
+        self.put("tree/crates.txt", "")
+        return self.path("tree", "crates", "seek", "out", "seek")
+
     def calls_made(self):
         made = self.read("calls").splitlines() if os.path.exists(self.path("calls")) else []
         self.put("calls", "")
@@ -318,19 +326,34 @@ class RunTest(PiecesTest):
         self.assertEqual(self.script("run", "run", "1", env=environment)[0], 0)
         self.assertEqual(self.calls_made(), ["knot numbers"] * 2)
 
-    def test_seek_is_given_the_list_of_cocycles_as_the_launcher_gives_it(self):
-        self.made("a\t# any 0 equal 0", words=("--job", "seek", "--seed", "2"))
-        self.assertEqual(self.calls_made(), ["seek --weights run/files/1-list.txt --seed 2"])
-        self.assertEqual(self.read("run", "files", "1-list.txt"), common.read("quandles", "weights", "list.txt"))
+    def asked_of_seek(self, program, *words):
+        """The words with which this seek is called by a run that is given these; the run is put aside."""
+        environment = {**self.environment(), "SEEK": program}
+        with mock.patch.object(self, "environment", lambda: environment):
+            self.made("a\t# any 0 equal 0", words=("--job", "seek", *words))
+        os.rename(self.path("run"), self.path("run-" + str(len(os.listdir(self.folder)))))
+        notes = os.path.join(os.path.dirname(program), "calls")
+        with open(notes, encoding="utf-8") as made:
+            found = made.read().splitlines()
+        os.unlink(notes)
+        return found
 
-    def test_seek_is_given_no_list_where_its_words_name_one_or_none(self):
-        self.put("mine.txt", "quandle dihedral 3\n")
+    def test_seek_is_given_the_default_cocycles_of_its_tree(self):
+        seek = self.tree(self.path("seek"), self.put("mine.txt", "quandle dihedral 5\n"))
+        self.assertEqual(self.asked_of_seek(seek, "--seed", "2"), ["seek --weights run/files/1-list.txt --seed 2"])
+        run = next(name for name in os.listdir(self.folder) if name.startswith("run-"))
+        self.assertEqual(self.read(run, "files", "1-list.txt"), "quandle dihedral 5\n")
+
+    def test_a_seek_of_no_tree_is_given_no_cocycles(self):
+        self.assertEqual(self.asked_of_seek(self.path("seek"), "--seed", "2"), ["seek --seed 2"])
+
+    def test_seek_is_given_no_default_cocycles_where_its_words_name_others_or_none(self):
+        mine = self.put("mine.txt", "quandle dihedral 3\n")
+        seek = self.tree(self.path("seek"), mine)
         for words, wanted in ((("--no-weights",), "seek --no-weights"), (("--weights", "mine.txt"), "seek --weights run/files/1-mine.txt"),
                               (("--weights=mine.txt", "--quandles", "mine.txt"), "seek --weights run/files/1-mine.txt --quandles run/files/2-mine.txt")):
             with self.subTest(words):
-                self.made("a\t# any 0 equal 0", words=("--job", "seek", *words))
-                self.assertEqual(self.calls_made(), [wanted])
-                os.rename(self.path("run"), self.path("run-" + str(len(os.listdir(self.folder)))))
+                self.assertEqual(self.asked_of_seek(seek, *words), [wanted])
 
     def test_what_is_kept_of_an_answer(self):
         self.made("a\t# any 0 quandle dihedral 3\\nnumbers 9\\nquandle trivial 19\\nwide 5", "b\t# any 3 malformed line 1",
@@ -552,8 +575,12 @@ TREFOIL, MIRROR = "braid 2 1 1 1", "braid 2 -1 -1 -1"
 class BuiltTest(PiecesTest):
     """With the programs themselves: pieces answer what a call of the launcher answers."""
 
+    def setUp(self):
+        super().setUp()
+        self.seek = self.tree(BUILT["SEEK"], os.path.join(common.LISTS, "weights", "list.txt"))
+
     def environment(self):
-        return {**os.environ, **BUILT}
+        return {**os.environ, **BUILT, "SEEK": self.seek}
 
     def answer(self, words, given):
         """A line of an answer, by a call without pieces."""

@@ -69,7 +69,9 @@ def parser():
     words.add_argument("--program", metavar="FILE",
                        help="the program of the job (default: what the variable KNOT names, else knot at the top of the tree; for the job "
                             "seek, SEEK and seek)")
-    words.add_argument("--seeker", metavar="FILE", help="the seek of the stages that ask it (default: what SEEK names, else that of the tree)")
+    words.add_argument("--seeker", metavar="FILE",
+                       help="the seek of the stages that ask it, with the default cocycles of its own tree or installation (default: what SEEK names, "
+                            "else that of the tree)")
     words.add_argument("--checker", metavar="FILE", help="the knot that checks the certificates (default: as KNOT or the tree has it)")
     words.add_argument("--stages", metavar="FILE", help="the stages (default: stages.txt beside this script for decide, else one without options)")
     words.add_argument("--no-seek", action="store_true", help="leave out the stages that ask seek, if that isn't built")

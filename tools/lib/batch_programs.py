@@ -9,6 +9,7 @@ import threading
 import time
 
 from knot_workbench.answers import ANSWERED, MALFORMED, NO_JOB, REJECTED
+from knot_workbench.programs import COCYCLES, default_cocycles
 from lib.batch_answers import in_one_line, kept_of
 from lib.batch_stages import BatchError, call_words, listed_file
 
@@ -18,9 +19,6 @@ WHY_NONE = {2: "it refuses the words", 5: "reading failed", 6: "writing failed",
 # A problem that each program answers at once, with nothing on standard error: two unknots, and for check a verdict after them.
 UNKNOTS = b"x 0 1\no 1 0\nx 0 1\no 1 0\n"
 EQUAL = b"equal 0\n"
-
-# The quandles with cocycles of a tree or of an installation, from its folder.
-LIST = os.path.join("quandles", "weights", "list.txt")
 
 # After how many seconds the main thread stops waiting for others and begins again. Python notices a signal that comes just before such a wait
 # only at its end, and on a busy machine "just before" is long.
@@ -166,20 +164,6 @@ def behind_launcher(program):
     return None
 
 
-def list_of(program):
-    """The file of quandles with cocycles by which a seek counts where its words name none: that of its tree, be it called by the launcher or
-    built there, or that of the prefix it is installed in. None for any other program."""
-    for path in (os.path.abspath(program), os.path.realpath(program)):
-        folder, name = os.path.split(path)
-        above = os.path.dirname(folder)
-        tree = os.path.dirname(os.path.dirname(above)) if folder.endswith(os.path.join("crates", "seek", "out")) else folder
-        for place, mark in ((tree, os.path.join(tree, "crates.txt")), (os.path.join(above, "share", "knot-workbench"), os.path.join(above, "lib", "knot-workbench", "seek"))):
-            listed = os.path.join(place, LIST)
-            if name == "seek" and os.path.isfile(mark) and os.path.isfile(listed):
-                return listed
-    return None
-
-
 class Programs:
     """The programs of a batch, by what they are asked for.
 
@@ -204,12 +188,11 @@ class Programs:
         return self.paths["seek" if stage.job == "seek" else "knot"]
 
     def completed(self, stage):
-        """The stage as it is run: where seek would count by a list that no word names, a word names it, and so it is part of the stage."""
-        options = {word.partition("=")[0] for word in stage.words}
-        path = list_of(self.path_for(stage)) if stage.job in ("seek", "") and not options & {"--weights", "--no-weights"} else None
+        """The stage as it is run: if seek counts by its default cocycles, a word names them, and so they are part of the stage."""
+        path = default_cocycles(self.path_for(stage), stage.words) if stage.job in ("seek", "") else None
         if path is None:
             return stage
-        return stage._replace(words=(f"--weights={LIST}", *stage.words), lists=(listed_file(LIST, path, "")._replace(data=None), *stage.lists))
+        return stage._replace(words=(f"--weights={COCYCLES}", *stage.words), lists=(listed_file(COCYCLES, path, "")._replace(data=None), *stage.lists))
 
     def prepare(self, uses):
         """Looks for the programs of these uses, and has a launcher build its program where that is due."""

@@ -5,7 +5,7 @@ from lib.table_worker import LINEAR
 
 
 def words_of(step, programs):
-    """The words by which a worker tries a pair in a step; of seek with the list that it counts by where its words name none."""
+    """The words by which a worker tries a pair in a step; of seek with its default cocycles, if it counts by them."""
     if step.kind == "linear":
         return LINEAR
     words = call_words(programs.completed(Stage(step.name, step.kind, step.words)))

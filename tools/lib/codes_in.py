@@ -7,6 +7,7 @@ import sys
 import tempfile
 
 from . import calls, pd_codes
+from knot_workbench.programs import default_cocycles
 
 TREE = os.path.dirname(os.path.dirname(os.path.dirname(os.path.realpath(__file__))))
 
@@ -42,7 +43,8 @@ def code_text(expression, link, code_of):
 def seek(program, texts, words):
     """Has seek look at two codes, and answers its exit status."""
     with tempfile.TemporaryDirectory(prefix="knot-codes-") as folder:
-        given = []
+        listed = default_cocycles(program, words)
+        given = [f"--weights={listed}"] if listed else []
         for name, text in zip(("first", "second"), texts):
             path = os.path.join(folder, name)
             calls.put(path, text)

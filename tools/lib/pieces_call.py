@@ -60,7 +60,8 @@ def parser():
     words.add_argument("--most", type=count_of, default=1000, metavar="N", help="how many pieces there may be (default: 1000, a usual limit of queues)")
     words.add_argument("--keep", metavar="WORD,..", help="of answers with status 0 keep only the lines that begin with one of these words")
     words.add_argument("--job", nargs=argparse.REMAINDER, required=True, metavar="JOB",
-                       help="comes last: seek or a job of knot, and its words; +FILE appends the text of a file to each problem")
+                       help="comes last: seek, with the default cocycles of its own tree or installation, or a job of knot, and its words; +FILE appends "
+                            "the text of a file to each problem")
     words = act("run", "answer some pieces, each whole or not at all")
     words.add_argument("numbers", metavar="NUMBER", help="which: 17, or 3,17-19")
     processes_word(words)

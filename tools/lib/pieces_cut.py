@@ -4,12 +4,12 @@ import re
 import shutil
 from array import array
 
+from knot_workbench.programs import default_cocycles
 from lib.batch_programs import Programs, Runner, behind_launcher
 from lib.pieces_run import Piece, PieceError, Run, Summed, read_run, sum_of, tell, whole_file
 from lib.whole_files import PART, host_name, is_alive
 
 TOP = os.path.dirname(os.path.dirname(os.path.dirname(os.path.realpath(__file__))))
-WEIGHTS = os.path.join(TOP, "quandles", "weights", "list.txt")
 
 # Words of seek that name a file to be read, and those by which it would not read its problem from standard input, or not write to standard output.
 FILE_WORDS = ("--weights", "--quandles")
@@ -24,10 +24,14 @@ FAULTS = 20
 
 # ---- programs and words
 
+def program_named(name):
+    """The program `knot` or `seek`: what the variable KNOT or SEEK names, or that of the tree."""
+    return os.environ.get(name.upper()) or os.path.join(TOP, name)
+
+
 def found_programs(uses):
-    """The programs of these uses, `knot`, `seek` or `check`: those that the variables KNOT and SEEK name, or those of the tree; a launcher
-    builds its program first where that is due."""
-    knot, seek = (os.environ.get(name.upper()) or os.path.join(TOP, name) for name in ("knot", "seek"))
+    """The programs of these uses, `knot`, `seek` or `check`; a launcher builds its program first where that is due."""
+    knot, seek = program_named("knot"), program_named("seek")
     programs = Programs(Runner(), knot, seek, knot)
     programs.prepare(uses)
     return programs
@@ -69,9 +73,9 @@ class Words:
         # The path of each file that is copied, by its name in the run.
         self.paths = {}
         words = list(words)
-        if job == "seek" and os.path.isfile(WEIGHTS) and not names_option(words, "--weights", "--no-weights"):
-            # So does the launcher.
-            words[:0] = ["--weights", WEIGHTS]
+        listed = default_cocycles(program_named("seek"), words) if job == "seek" else None
+        if listed:
+            words[:0] = ["--weights", listed]
         while words:
             self.take(job, words)
 
@@ -97,11 +101,6 @@ class Words:
         name = f"files/{len(self.paths) + 1}-{os.path.basename(path)}"
         self.paths[name] = path
         return name
-
-
-def names_option(words, *options):
-    """Whether one of these options is among the words."""
-    return any(word.partition("=")[0] in options for word in words)
 
 
 # ---- the table

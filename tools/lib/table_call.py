@@ -49,7 +49,7 @@ def parser():
     words.add_argument("table", metavar="TABLE", help="a CSV or TSV file in UTF-8, or - for standard input")
     words.add_argument("folder", metavar="FOLDER", help="where a file NAME.txt is written for each; made if it is missing")
     words.add_argument("--name", default="name", metavar="COLUMN", help="the column of names (default: name)")
-    words.add_argument("--diagram", required=True, metavar="COLUMN", help="the column of braid words or arc presentations")
+    words.add_argument("--diagram", required=True, metavar="COLUMN", help="the column of diagrams: braid words, arc presentations, PD or DT codes")
     words.add_argument("--strands", metavar="COLUMN", help="the column of the numbers of strands; an empty field there: as few as do")
     asked = words.add_mutually_exclusive_group()
     asked.add_argument("--second", metavar="COLUMN", help="a problem for each row: this column against the first")
