@@ -9,7 +9,8 @@
 CODE is a text as the other program prints it, or the path of a file with one; standard input is read if none is given. It becomes a planar
 diagram code as ./knot grid and ./seek --pd read it, with a comment that says how it was made. These are accepted, in brackets of any kind:
 
-PD     PD[X[4,2,5,1], ..] of KnotTheory, [[4,2,5,1], ..] of KnotInfo, SnapPy and Regina; Sage lists edges the other way round, see --sage
+PD     PD[X[4,2,5,1], ..] of KnotTheory, [[4,2,5,1], ..] of KnotInfo, SnapPy and Regina, X4251 X_{3,10,4,11} .. of the Knot Atlas; Sage lists
+       edges the other way round, see --sage
 DT     KnotInfo and KnotTheory: [4,6,2], DT[4,6,2], DTCode[{6,8},{2,4}] with a list for each component
        SnapPy: DT:[(4,6,2)] with a list for each component, and DT[cacbca] in letters: the number of crossings, that of components, the length
        of each, and then 2, 4, .. as a, b, .. and -2, -4, .. as A, B, ..

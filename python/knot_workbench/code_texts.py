@@ -7,7 +7,8 @@
 
 These forms are read, with brackets of any kind, commas or blanks:
 
-    PD     PD[X[4,2,5,1], ..], [[4,2,5,1], ..], [(4,2,5,1), ..], and what the job `code` of knot writes
+    PD     PD[X[4,2,5,1], ..], [[4,2,5,1], ..], (4,2,5,1), .., X4251 X8615 .. and X_{3,10,4,11} .. of the Knot Atlas, and what the job `code` of knot
+           writes
     DT     DT[4,6,2], [4,6,2], DTCode[{6,8},{2,4}], DT:[(4,6,2)], and letters such as DT[cacbca]: the numbers of crossings and components, the
            length of each component, and then 2, 4, .. as a, b, .. and -2, -4, .. as A, B, ..
     Gauss  GaussCode[-1,2,-3,1,-2,3], {1,-2,3,-1,2,-3}, a list for each component; O1+U2+O3+U1+O2+U3+ with the signs of the crossings;
@@ -21,7 +22,7 @@ from typing import Any, Dict, Iterable, List, NamedTuple, Optional, Sequence, Tu
 
 from .faults import BadCode
 from .gauss_codes import rows_of_gauss, rows_of_signed
-from .pd_codes import CodeError, rows_of_dt, text_of
+from .pd_codes import CodeError, rows_of_dt, text_of, with_brackets
 
 KINDS = ("PD", "DT", "Gauss")
 
@@ -32,7 +33,7 @@ TOKEN = re.compile(r"[\s,;]*(?:(?P<number>[+-]?[0-9]+)|(?P<mark>[][{}()]))")
 OPENING = {"{": "}", "[": "]", "(": ")"}
 
 # The word that a text begins with, by the kind.
-WORDS = (("PD", re.compile(r"\s*(?:PD(?:_?code)?\b\s*[:=]?|(?=X[pm]?\s*[\[(]))", re.I)),
+WORDS = (("PD", re.compile(r"\s*(?:PD(?:_?code)?\b\s*[:=]?|(?=X[pm]?\s*[\[({]|(?-i:X[pm]?_?\{?[0-9])))", re.I)),
          ("DT", re.compile(r"\s*(?:DT(?:_?code)?|Dowker(?:Code)?)\b\s*[:=]?", re.I)), ("Gauss", re.compile(r"\s*(?:Gauss(?:_?code)?)\b\s*[:=]?", re.I)))
 ROW_WORD = re.compile(r"\bX[pm]?\s*(?=[\[({])")
 OF_KNOT = re.compile(r"\s*(?:#[^\n]*\n\s*)*crossings [0-9]+[\r\n]")
@@ -145,7 +146,17 @@ def read_text(text: str, kind: Optional[str] = None) -> CodeOf:
     letters = LETTERS.fullmatch(rest) if kind == "DT" else None
     if letters:
         return of_dt(components_of_letters(letters[1]))
+    if kind == "PD":
+        rest = text_with_brackets(rest)
     return read_lists(lists_in(ROW_WORD.sub("", rest)), kind)
+
+
+def text_with_brackets(text: str) -> str:
+    """The text of a PD code whose crossings all have brackets. Raises BadCode."""
+    try:
+        return with_brackets(text)
+    except CodeError as fault:
+        raise BadCode(str(fault)) from None
 
 
 def read_lists(value: Iterable[Any], kind: Optional[str] = None) -> CodeOf:
@@ -153,8 +164,6 @@ def read_lists(value: Iterable[Any], kind: Optional[str] = None) -> CodeOf:
     items = plain(value)
     if not isinstance(items, list):
         raise BadCode(f"{value!r:.30} is no code: a text or lists of numbers are due")
-    if kind == "PD":
-        return of_pd(items if all(isinstance(item, list) and len(item) == 4 and are_numbers(item) for item in items) else unwrapped(items))
     items = unwrapped(items)
     kind = kind or kind_of_lists(items)
     if kind == "PD":

@@ -8,6 +8,7 @@ one. It lists the even numbers by their odd ones, with a minus where the strands
 also that of the mirror image. To find its PD code, all crossings are smoothed so that one closed curve is left, which touches itself where the
 crossings were (Dehn's method). Two touches that interlace along the curve are on different sides of it, one inside and one outside.
 """
+import re
 from collections import namedtuple
 
 from .faults import Fault
@@ -17,6 +18,11 @@ Embedded = namedtuple("Embedded", "rows parts")
 
 UNDER, OVER = 0, 1
 
+# A crossing as the Knot Atlas writes it, X4251 or X3,10,4,11, perhaps with the marks of a subscript, X_{4251}.
+EDGES = r"[0-9]{4}|[0-9]{1,9}(?:\s*,\s*[0-9]{1,9}){3}"
+SHORT = re.compile(rf"(?<![A-Za-z])X[pm]?(?:_?\{{\s*({EDGES})\s*\}}|({EDGES})(?=[\s\])}};X]|,\s*X|,?$))")
+NO_CROSSING = re.compile(r"(?<![A-Za-z])X[pm]?[_0-9][^\sX]*")
+
 
 class CodeError(Fault):
     """A list of numbers is no code of a diagram."""
@@ -25,6 +31,20 @@ class CodeError(Fault):
 def text_of(rows, loops=0):
     """The text of a code as `knot grid` reads it."""
     return "".join([f"crossings {len(rows)}\n", *(f"X[{i},{j},{k},{l}]\n" for i, j, k, l in rows), f"loops {loops}\n"])
+
+
+def with_brackets(text):
+    """The text of a PD code with each crossing X4251 or X_{3,10,4,11} as X[4,2,5,1] or X[3,10,4,11]. CodeError where the digits after an X are no
+    four edges."""
+    def crossing(found):
+        edges = found[1] or found[2]
+        return f"X[{edges if ',' in edges else ','.join(edges)}]"
+
+    text = SHORT.sub(crossing, text)
+    left = NO_CROSSING.search(text)
+    if left:
+        raise CodeError(f"'{left[0][:20]}' is no crossing: after X come four edges, as X[4,2,5,1], X4251 or X3,10,4,11")
+    return text
 
 
 def components_of(rows):

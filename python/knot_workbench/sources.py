@@ -28,14 +28,15 @@ def from_snappy(link: Any) -> Grid:
     return from_pd(*code_of_snappy(link))
 
 
-def from_table(path: Union[str, "os.PathLike[str]"], diagram: Optional[str] = None, name: str = "name", *, strands: Optional[str] = None, arcs: str = "columns",
-               mirror: bool = False, reverse: bool = False, reads: Optional[str] = None, delimiter: Optional[str] = None, has_header: bool = True,
-               skip_rows: int = 0, faults: Optional[List[Fault]] = None) -> Any:
+def from_table(path: Union[str, "os.PathLike[str]"], diagram: Optional[str] = None, name: Optional[str] = None, *, strands: Optional[str] = None,
+               arcs: str = "columns", mirror: bool = False, reverse: bool = False, reads: Optional[str] = None, delimiter: Optional[str] = None,
+               has_header: bool = True, skip_rows: int = 0, faults: Optional[List[Fault]] = None) -> Any:
     """The names and diagrams of a table of knots, a list of pairs; or a Grid of one knot by its name, as `from_table("8_19")`.
 
     A table is a CSV or TSV file whose column `diagram` has braid words, arc presentations, PD or DT codes. Where no column is named, the only
-    one counts that has diagrams by its title. A name is one of the table of prime knots to twelve crossings, as "10_132", "11n34",
-    "3_1 mirrored" or "3_1 # 4_1": what is neither a path nor named with a column is taken for one.
+    one counts that has diagrams by its title. The names are in the column `name`: by default the one of this title, or the first where there is
+    no header. The name of one knot is that of the table of prime knots to twelve crossings, as "10_132", "11n34", "3_1 mirrored" or "3_1 # 4_1":
+    what is neither a path nor named with a column is taken for one.
 
     What an entry is, its column's title, its brackets or `reads` decide: "braid", "PD" or "DT". Codes are drawn by `knot grid`.
     Columns are named by their titles, or by their numbers from 1; the other words are those of tools/from_table.py. A row that can't be had

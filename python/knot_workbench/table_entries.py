@@ -29,9 +29,10 @@ MAX_DEPTH = 3
 OPENING = {"{": "}", "[": "]", "(": ")"}
 TOKEN = re.compile(r"\s*(?:(?P<number>[+-]?[0-9]+)|(?P<mark>[][{}(),;]))")
 
-# The words with which some programs begin a code, and those that are in it.
-CODE_WORDS = (("PD", re.compile(r"\s*(?:PD|X[pm]?)\s*[\[(]")), ("DT", re.compile(r"\s*DT")), ("Gauss", re.compile(r"\s*[A-Z]*Gauss", re.I)))
-WORDS_IN = {"PD": re.compile(r"(?:\bPD|\bX[pm]?)\s*(?=[\[(])"), "DT": re.compile(r"\bDT(?:Code)?\s*:?\s*")}
+# The words with which some programs begin a code, and those that are in it. A list of four numbers with another list after it begins a PD code too.
+CODE_WORDS = (("PD", re.compile(r"\s*(?:(?:PD|X[pm]?)\s*[\[({]|X[pm]?_?\{?[0-9]|[\[({]\s*[0-9]+(?:\s*,\s*[0-9]+){3}\s*[\])}]\s*[,;]?\s*[\[({])")),
+              ("DT", re.compile(r"\s*DT")), ("Gauss", re.compile(r"\s*[A-Z]*Gauss", re.I)))
+WORDS_IN = {"PD": re.compile(r"(?:\bPD|(?<![A-Za-z])X[pm]?)\s*(?=[\[({])"), "DT": re.compile(r"\bDT(?:Code)?\s*:?\s*")}
 
 # The least number of crossings for which a list of numbers is taken for a code.
 CODE_LEAST = 3
@@ -72,7 +73,7 @@ def tokens_of(text):
 
 
 def nested(text):
-    """The nested list of whole numbers that an entry writes, in brackets of any one kind at each level."""
+    """The nested list of whole numbers that an entry writes, in brackets of any one kind at each level. Between lists commas may be left out."""
     tokens = list(tokens_of(text))
     if not tokens:
         raise EntryError("the entry is empty")
@@ -80,7 +81,8 @@ def nested(text):
         raise EntryError("the entry does not begin with a bracket")
     value, place = nested_at(tokens, 0, 1)
     if place < len(tokens):
-        raise EntryError(f"'{tokens[place]}' comes after the last bracket")
+        hint = "; only the crossings of a PD code need no brackets around them" if tokens[place] in (",", ";", *OPENING) else ""
+        raise EntryError(f"'{tokens[place]}' comes after the last bracket{hint}")
     return value
 
 
@@ -98,7 +100,7 @@ def nested_at(tokens, place, depth):
             if items and tokens[place - 1] in (",", ";"):
                 raise EntryError("there is a comma before a closing bracket")
             return items, place + 1
-        if items:
+        if items and not (isinstance(items[-1], list) and tokens[place] in OPENING):
             if tokens[place] not in (",", ";"):
                 raise EntryError(f"a comma is due, and not '{tokens[place]}'")
             place += 1
@@ -159,7 +161,7 @@ def diagram_of(entry, strands, conventions):
     if kind == "Gauss":
         raise EntryError(f"the entry begins as a Gauss code, which is not read; {INSTEAD}")
     if kind is not None:
-        entry = f"[{WORDS_IN[kind].sub('', entry)}]"
+        entry = f"[{WORDS_IN[kind].sub('', with_brackets(entry) if kind == 'PD' else entry)}]"
     value = nested(entry)
     if kind is not None and len(value) == 1 and isinstance(value[0], list) and (kind == "DT" or not are_numbers(value[0])):
         value = value[0]
@@ -193,6 +195,14 @@ def kind_of(value, reads):
 
 
 # --- codes
+
+
+def with_brackets(entry):
+    """A PD code whose crossings all have brackets."""
+    try:
+        return pd_codes.with_brackets(entry)
+    except pd_codes.CodeError as error:
+        raise EntryError(str(error)) from None
 
 
 def pd_of(rows, conventions):

@@ -107,7 +107,7 @@ class Table:
             rows = rows[1:]
         self.rows = rows[options.skip_rows:]
         self.header, self.width = header, len(header)
-        self.name = column_of(path, header, options.name)
+        self.name = column_of(path, header, options.name or ("1" if options.no_header else "name"))
         self.diagram = column_of(path, header, options.diagram or column_of_diagrams(path, header))
         self.second = column_of(path, header, options.second) if options.second else None
         self.strands = column_of(path, header, options.strands) if options.strands else None

@@ -26,9 +26,11 @@ class Codes(unittest.TestCase):
     def test_the_guide_s_text_of_a_pd_code(self):
         self.assertIn(FIGURE_EIGHT, common.read("docs", "GUIDE.md"))
         for text in (FIGURE_EIGHT, "[[4,2,5,1],[8,6,1,5],[6,3,7,4],[2,7,3,8]]", "{(4 2 5 1), (8 6 1 5), (6 3 7 4), (2 7 3 8)}",
-                     "X[4,2,5,1] X[8,6,1,5]\nX[6,3,7,4] X[2,7,3,8]"):
+                     "X[4,2,5,1] X[8,6,1,5]\nX[6,3,7,4] X[2,7,3,8]", "(4,2,5,1),(8,6,1,5),(6,3,7,4),(2,7,3,8)", "X4251 X8615 X6374 X2738",
+                     "PD: X_{4251}, X_{8,6,1,5}\nX6,3,7,4 X2738"):
             self.assertEqual(read_text(text)[:4], ("PD", [[4, 2, 5, 1], [8, 6, 1, 5], [6, 3, 7, 4], [2, 7, 3, 8]], 0, 0), text)
-        self.assertEqual(read_text("[[1,1,2,2]]").rows, [[1, 1, 2, 2]])
+        for text in ("[[1,1,2,2]]", "PD[X[1,1,2,2]]", "X[1,1,2,2]", "PD[X1122]"):
+            self.assertEqual(read_text(text).rows, [[1, 1, 2, 2]], text)
 
     def test_what_knot_writes_goes_on_as_it_stands(self):
         text = common.read("examples", "code", "right-trefoil.out")
@@ -59,7 +61,9 @@ class Codes(unittest.TestCase):
     def test_other_texts_are_refused(self):
         for text, said in (("", "empty"), ("  \n", "empty"), ("4_1", "neither a number nor a bracket"), ("DT[4,6,2", "']' is missing"), ("[1)", "closes none"),
                            ("PD[]", "without rows"), ("1 2 3", "no PD, DT or Gauss code"), ("[[1,2],[3]]", "no PD, DT or Gauss code"),
-                           ("[[[[[[1]]]]]]", "brackets within brackets"), ("1234567890", "too many digits"), ("PD[X[1,2,3]]", "four edges")):
+                           ("[[[[[[1]]]]]]", "brackets within brackets"), ("1234567890", "too many digits"), ("PD[X[1,2,3]]", "four edges"),
+                           ("X425 X8615", "'X425' is no crossing"), ("X4251,8 X8615", "'X4251,8' is no crossing"), ("X4251 8615", "row 2 is 8615"),
+                           ("x4251", "neither a number nor a bracket")):
             self.refused(said, read_text, text)
         self.refused("a DT code by its first word, and a PD code is due", read_text, "DT[4,6,2]", "PD")
 

@@ -20,6 +20,7 @@ SEEK = '#!/bin/sh\necho "$*"\ncat\necho "seek: a sentence" >&2\nexit ${ENDS:-0}\
 # One that finds the first diagram and the second to be equal without a move, if they are, and else nothing.
 EQUAL = '#!/bin/sh\nread first; read remark; read second\n[ "$first" = "$second" ] && echo equal 0 || { echo "seek: nothing found: of these" >&2; exit 1; }\n'
 KNOT = "#!/bin/sh\ncat >/dev/null\necho accepted\n"
+LAUNCHER = '#!/bin/sh\nexec "${0%/*}/crates/seek/out/seek" "$@"\n'
 
 
 class AskSeekTest(unittest.TestCase):
@@ -31,6 +32,7 @@ class AskSeekTest(unittest.TestCase):
 
     def put(self, name, text):
         path = os.path.join(self.folder, name)
+        os.makedirs(os.path.dirname(path), exist_ok=True)
         with open(path, "w", encoding="utf-8") as out:
             out.write(text)
         os.chmod(path, 0o755)
@@ -101,6 +103,33 @@ class OneTurn(AskSeekTest):
     def test_a_program_that_is_not_there(self):
         status, _, said = self.call("--mirror", "trefoil.txt", "word.txt", SEEK="/no/such/seek")
         self.assertEqual((status, said), (127, "seek: /no/such/seek: no program of this name\n"))
+
+
+class DefaultCocycles(AskSeekTest):
+    def setUp(self):
+        super().setUp()
+        self.listed = self.put("tree/quandles/weights/list.txt", "")
+        self.put("tree/crates.txt", "")
+        self.put("tree/seek", LAUNCHER)
+        self.put("tree/crates/seek/out/seek", SEEK)
+
+    def words_for(self, seek, *words):
+        """The words that a seek of the tree is given."""
+        status, out, _ = self.call("--mirror", "trefoil.txt", "word.txt", *words, SEEK=seek, PATH=os.pathsep.join([self.folder + "/tree", os.environ["PATH"]]))
+        self.assertEqual(status, 0)
+        return out.splitlines()[0]
+
+    def test_seek_is_given_those_of_its_tree(self):
+        for seek in (self.folder + "/tree/seek", self.folder + "/tree/crates/seek/out/seek", "seek"):
+            self.assertEqual(self.words_for(seek, "--seed", "5"), f"--weights={self.listed} --seed=5 -", seek)
+
+    def test_seek_is_given_none_where_its_words_name_others_or_none(self):
+        for words, given in ((["--weights", "mine.txt"], "--weights=mine.txt"), (["--no-weights"], "--no-weights")):
+            self.assertEqual(self.words_for(self.folder + "/tree/seek", *words), f"{given} -")
+
+    def test_a_seek_of_no_tree_is_given_none(self):
+        os.unlink(self.folder + "/tree/crates.txt")
+        self.assertEqual(self.words_for(self.folder + "/tree/crates/seek/out/seek", "--seed", "5"), "--seed=5 -")
 
 
 class AllTurns(AskSeekTest):

@@ -121,6 +121,8 @@ class BraidTest(TableTest):
                 ("{1,,1}", "a number or a bracket is due, and not ','"),
                 ("{1,}", "there is a comma before a closing bracket"),
                 ("{1,1}}", "'}' comes after the last bracket"),
+                ("{1,1},{1}", "',' comes after the last bracket; only the crossings of a PD code need no brackets around them"),
+                ("{1,{1} 1}", "a comma is due, and not '1'"),
                 ("{1,a}", "'a}' is neither a number, a comma nor a bracket"),
                 ("{1.5}", "'.5}' is neither a number, a comma nor a bracket"),
                 ("{1234567890}", "the number 123456789... has too many digits"),
@@ -219,6 +221,11 @@ class TableShapesTest(TableTest):
     def test_standard_input_and_columns_by_number(self):
         status, _, _ = self.call("-", self.out, "--no-header", "--name", "2", "--diagram", "1", "--delimiter", ";", given="{1};a\n")
         self.assertEqual((status, self.made("a")), (0, "# name: a\nbraid 2 1\n"))
+
+    def test_without_a_header_the_names_are_in_the_first_column(self):
+        path = self.table("a|{1}\nb|{1,1}\n")
+        self.assertEqual(self.call(path, self.out, "--no-header", "--diagram", "2")[::2], (0, ""))
+        self.assertEqual((self.made("a"), self.made("b")), ("# name: a\nbraid 2 1\n", "# name: b\nbraid 2 1 1\n"))
 
     def test_a_second_header(self):
         path = self.table("name|word\nName|Braid Word\na|{1}\n")

@@ -204,6 +204,14 @@ class BadInput(IdentifyTest):
         self.assertIn("a Gauss code, which is not read", self.answer("[1,-1,2,-2,3,-3]\n"))
         self.assertIn("at most 48 are taken", self.answer(f"braid 2 {'1 ' * 45}\n"))
 
+    def test_a_file_with_several_codes_is_no_diagram(self):
+        codes = "PD[X[1,1,2,2]]\nPD[X[1,5,2,4],X[3,1,4,6],X[5,3,6,2]]\n"
+        for text in (codes, "# two codes\n\n" + codes, "X1122\nX1524 X3146 X5362\n", "[[1,5,2,4],[3,1,4,6],[5,3,6,2]]\n" * 2, "DT[4,6,2]\n[4,6,8,2]\n",
+                     codes + "X12345\n"):
+            self.assertIn("; several lines of the file are codes of their own: make it a table with a line for each (docs/GUIDE.md, ", self.answer(text))
+        for text in ("X[1,5,2,4]\nX[3,1,4,6]\nX[5,3,6,3]\n", "X1524 X3146\nX5363\n", codes.split("\n")[1].replace("X[1,", "X[7,"), "DT[4,6,8]\n"):
+            self.assertNotIn("several", self.answer(text))
+
     def test_a_row_without_a_diagram_is_kept_and_says_so(self):
         table = self.put("given.csv", 'name,braid_notation\nnone,\nlink,"{1,1}"\nshort\nunknot,"{1}"\n')
         status, _, said = self.identify(table, "--out", os.path.join(self.folder, "out.csv"))

@@ -326,9 +326,9 @@ class RunTest(PiecesTest):
         self.assertEqual(self.script("run", "run", "1", env=environment)[0], 0)
         self.assertEqual(self.calls_made(), ["knot numbers"] * 2)
 
-    def asked_of_seek(self, program, *words):
-        """The words with which this seek is called by a run that is given these; the run is put aside."""
-        environment = {**self.environment(), "SEEK": program}
+    def asked_of_seek(self, program, *words, named=None):
+        """The words with which this seek is called by a run that is given these; the run is put aside. It is named by its path, or by a name on PATH."""
+        environment = {**self.environment(), "SEEK": named or program, "PATH": os.pathsep.join([os.path.dirname(program), os.environ["PATH"]])}
         with mock.patch.object(self, "environment", lambda: environment):
             self.made("a\t# any 0 equal 0", words=("--job", "seek", *words))
         os.rename(self.path("run"), self.path("run-" + str(len(os.listdir(self.folder)))))
@@ -343,6 +343,10 @@ class RunTest(PiecesTest):
         self.assertEqual(self.asked_of_seek(seek, "--seed", "2"), ["seek --weights run/files/1-list.txt --seed 2"])
         run = next(name for name in os.listdir(self.folder) if name.startswith("run-"))
         self.assertEqual(self.read(run, "files", "1-list.txt"), "quandle dihedral 5\n")
+
+    def test_a_seek_on_path_is_given_the_default_cocycles_of_its_tree(self):
+        seek = self.tree(self.path("seek"), self.put("mine.txt", "quandle dihedral 5\n"))
+        self.assertEqual(self.asked_of_seek(seek, "--seed", "2", named="seek"), ["seek --weights run/files/1-list.txt --seed 2"])
 
     def test_a_seek_of_no_tree_is_given_no_cocycles(self):
         self.assertEqual(self.asked_of_seek(self.path("seek"), "--seed", "2"), ["seek --seed 2"])

@@ -6,7 +6,9 @@ import unittest
 
 import common
 import knot_invariants
-from lib import crossing_codes, diagrams, pd_codes, table_entries
+from knot_workbench.code_grids import Grids
+from knot_workbench.diagrams import grid_text
+from lib import crossing_codes, diagrams, identify_inputs, pd_codes, table_entries
 from test_from_table import TREE, TableTest
 from test_pd_codes import signs_of
 
@@ -17,7 +19,9 @@ TREFOIL = "x 4 3 2 1 0\no 2 1 0 4 3\n"
 GAUSS = ("{-1,2,-3,1,-2,3}", "[-1, 2, -3, 1, -4, 3, -2, 4]", "{{1,-2},{2,-1}}", "[[[-1, 2], [-2, 1]], [-1, -1]]")
 DT_LISTS = ("{4,6,2}", "[4, 6, 8, 2]", "{4,8,10,2,6}", "[4, 8, -12, 2, -14, -6, -10]")
 PD = ("[[1,5,2,4],[3,1,4,6],[5,3,6,2]]", "{{1,5,2,4};{3,1,4,6};{5,3,6,2}}", "PD[X[1,5,2,4],X[3,1,4,6],X[5,3,6,2]]", "X[1,5,2,4], X[3,1,4,6], X[5,3,6,2]",
-      "PD[Xp[1,5,2,4], Xp[3,1,4,6], Xp[5,3,6,2]]", "[(1, 5, 2, 4), (3, 1, 4, 6), (5, 3, 6, 2)]")
+      "PD[Xp[1,5,2,4], Xp[3,1,4,6], Xp[5,3,6,2]]", "[(1, 5, 2, 4), (3, 1, 4, 6), (5, 3, 6, 2)]", "X[1,5,2,4] X[3,1,4,6] X[5,3,6,2]",
+      "PD[X[1,5,2,4] X[3,1,4,6] X[5,3,6,2]]", "(1,5,2,4),(3,1,4,6),(5,3,6,2)", "[1,5,2,4] [3,1,4,6] [5,3,6,2]", "X1524 X3146 X5362", "X1524,X3146,X5362",
+      "PD[X_{1524}, X_{3146}, X_{5362}]", "X1,5,2,4 X3146, X[5,3,6,2]")
 PD_TEXT = "crossings 3\nX[1,5,2,4]\nX[3,1,4,6]\nX[5,3,6,2]\nloops 0\n"
 
 
@@ -53,8 +57,26 @@ class DrawnTest(TableTest):
                 self.assertEqual(self.of("entry", entry), f"# name: k\n# by `knot grid`, of a PD code\n{TREFOIL}")
         self.assertEqual(self.noted(), PD_TEXT * len(PD))
 
+    def test_edges_of_two_digits_are_between_commas(self):
+        for entry in ("X8291 X_{10,3,11,4} X_{12,5,1,6}", "X8,2,9,1 X10,3,11,4 X12,5,1,6"):
+            with self.subTest(entry):
+                self.assertIn("the edge 2 doesn't occur exactly twice", self.reason(entry))
+        self.assertEqual(self.noted(), "crossings 3\nX[8,2,9,1]\nX[10,3,11,4]\nX[12,5,1,6]\nloops 0\n" * 2)
+
+    def test_files_have_the_same_codes(self):
+        def had(text):
+            given = identify_inputs.Given("k", "k.txt", text, "file")
+            return grid_text(identify_inputs.had(given, table_entries.Conventions("columns", False, False, None, Grids())).diagram)
+
+        for text in (*(entry for entry in PD if "Xp" not in entry), "# a name\nX[1,5,2,4] X[3,1,4,6]\nX[5,3,6,2]\n", "X1524 X3146\nX_{5,3,6,2}\n"):
+            self.assertEqual(had(text), TREFOIL, text)
+        # What `knot grid` reads goes on as it stands.
+        text = "X 1 5 2 4\nX 3 1 4 6\nX 5 3 6 2\n"
+        had(text)
+        self.assertTrue(self.noted().endswith(text))
+
     def test_one_crossing_is_a_pd_code_too(self):
-        for entry in ("X[1,1,2,2]", "PD[X[1,1,2,2]]", "[[1,1,2,2]]"):
+        for entry in ("X[1,1,2,2]", "PD[X[1,1,2,2]]", "[[1,1,2,2]]", "X1122"):
             with self.subTest(entry):
                 self.assertIn("x 0 1 2\n", self.of("entry", entry))
 
@@ -87,6 +109,11 @@ class DrawnTest(TableTest):
                               ("[[1,1,2,2],[3,3,4,4],[5,5,6,6],[7,7,8,8],[9,9,10,10],[11,11,12,12]]", "its drawing takes 50 columns, and a grid has at most 48"),
                               ("[[1,1,2,2],[3,3,4,4],[5,5,6,6],[7,7,8,8],[9,9,10,10]]", "no diagram in the plane has this code"),
                               ("PD[X[1,2,3]]", "row 1 of a PD code has four numbers, and not [1, 2, 3]"), ("X[-1,5,2,4]", "row 1 has the edge -1"),
+                              ("(1,5,2,4),(3,1,4)", "row 2 of a PD code has four numbers, and not [3, 1, 4]"),
+                              ("(1,5,2),(3,1,4,6)", "',' comes after the last bracket; only the crossings of a PD code need no brackets around them"),
+                              ("X1524 3146", "a comma is due, and not '3146'"), ("X[1,5,2,4] 3", "a comma is due, and not '3'"),
+                              *((f"{entry} X3146", f"'{entry}' is no crossing: after X come four edges, as X[4,2,5,1], X4251 or X3,10,4,11")
+                                for entry in ("X152", "X15246", "X1,5,2", "X1,5,2,4,6", "X1524,6", "X_{1,5,2}", "X_1,5,2,4")),
                               ("PD[]", "row 1 of a PD code has four numbers"), ("DT[cacbca]", "'cacbca]]' is neither a number"),
                               ("DT[4,6]", "has each even number from 2 to 4 once"), ("DT[4,6,8,10,2]", "no diagram in the plane has this code"),
                               ("DT: [(4,6,2),()]", "a DT code has a list of even numbers for each component")):

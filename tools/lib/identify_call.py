@@ -73,7 +73,7 @@ def parser():
     words.add_argument("--dt", action="append", default=[], metavar="CODE", help='a DT code, as "4 6 2"')
     words.add_argument("--table", metavar="FILE", help="the table of knots (default: tables/prime-knots-to-12.csv)")
     words.add_argument("--list", metavar="FILE", help="the list of quandles by which its rows were counted (default: tables/list.txt)")
-    words.add_argument("--name", default="name", metavar="COLUMN", help="the column of names of a table (default: name)")
+    words.add_argument("--name", metavar="COLUMN", help="the column of names of a table (default: name; with --no-header the first)")
     words.add_argument("--diagram", metavar="COLUMN", help="the column of diagrams (default: the only one that has them by its title)")
     words.add_argument("--expect", metavar="COLUMN", help="the column of the names that the rows should have")
     words.add_argument("--strands", metavar="COLUMN", help="the column of the numbers of strands")

@@ -8,9 +8,11 @@ from lib.code_grids import CAUSES
 from lib.table_call import read_bytes
 from lib.table_entries import diagram_of
 from lib.table_rows import Table, TableError, column_of, decoded
+from knot_workbench.code_texts import read_text
 from knot_workbench.diagrams import Lines, read_diagram
-from knot_workbench.faults import Fault, OverLimit, Rejected
+from knot_workbench.faults import BadAnswer, Failed, Fault, NoProgram, OverLimit, Rejected
 from knot_workbench.jobs import grid_by
+from knot_workbench.pd_codes import with_brackets
 
 TABLES = (".csv", ".tsv", ".tab")
 
@@ -24,6 +26,9 @@ Had = collections.namedtuple("Had", "diagram is_dt")
 
 # The beginnings of a planar diagram code as `knot grid` reads it.
 CODE = re.compile(r"\s*(?:crossings\b|loops\b|PD\b|X\b)")
+
+# What is said of a file with several codes.
+HINT = "; several lines of the file are codes of their own: make it a table with a line for each (docs/GUIDE.md, Many codes)"
 
 
 # --- one diagram
@@ -50,13 +55,32 @@ def of_text(text, conventions):
         diagram = read_diagram(lines)
         lines.done()
         return Had(diagram, False)
-    kept = "\n".join(line for line in text.splitlines() if not line.lstrip().startswith("#"))
-    if not CODE.match(kept):
-        return of_entry(kept, None, conventions)
+    kept = [line for line in text.splitlines() if not line.lstrip().startswith("#")]
     try:
-        return Had(turned(grid_by(kept + "\n"), conventions), False)
+        return of_code("\n".join(kept), conventions)
+    except Fault as fault:
+        if isinstance(fault, (BadAnswer, Failed, NoProgram)) or sum(map(is_code, kept)) < 2:
+            raise
+        raise Fault(f"{fault}{HINT}") from None
+
+
+def of_code(text, conventions):
+    """The diagram of a text without comments: a crossing code, or what a table's entry may be."""
+    if not CODE.match(text):
+        return of_entry(text, None, conventions)
+    try:
+        return Had(turned(grid_by(with_brackets(text) + "\n"), conventions), False)
     except (Rejected, OverLimit) as fault:
         raise Fault(sentence_of(fault)) from None
+
+
+def is_code(line):
+    """Whether a line is a whole code: of a PD code each edge comes twice in it."""
+    try:
+        edges = collections.Counter(edge for row in read_text(line).rows for edge in row)
+    except Fault:
+        return False
+    return set(edges.values()) == {2}
 
 
 def turned(grid, conventions):

@@ -12,8 +12,9 @@ ABOUT = "Makes inputs for knot and seek from a table of knots: one diagram a row
 EPILOG = """\
 The table has a row for each knot: a name, and a braid word as {1,1,-2,1,-2} or [1, 1, -2, 1, -2], with its strands in front
 as {3,{1,1,-2,1,-2}}, in a column of their own, or as few as the letters need; or an arc presentation as {{5,2},{1,3},...} or
-[[5,2],[1,3],...]; or a PD code as PD[X[1,5,2,4],...] or [[1,5,2,4],...]; or a DT code as {4,6,2} or {{4},{2}}. The title of the
-column, the first word of an entry or its brackets show which of these it is.
+[[5,2],[1,3],...]; or a PD code as PD[X[1,5,2,4],...], [[1,5,2,4],...] or X1524 X_{3,10,4,11} ..., with or without commas between
+crossings and brackets around them; or a DT code as {4,6,2} or {{4},{2}}. The title of the column, the first word of an entry or its
+brackets show which of these it is.
 
 `knot grid` draws a PD code; its rows are counterclockwise, from the edge on which the lower strand enters. A DT code is made into a PD
 code, and drawn; the mirror image has the same DT code. Each file says how its diagram was made. Gauss codes aren't read: a column is
@@ -48,7 +49,7 @@ def parser():
                         formatter_class=argparse.RawDescriptionHelpFormatter)
     words.add_argument("table", metavar="TABLE", help="a CSV or TSV file in UTF-8, or - for standard input")
     words.add_argument("folder", metavar="FOLDER", help="where a file NAME.txt is written for each; made if it is missing")
-    words.add_argument("--name", default="name", metavar="COLUMN", help="the column of names (default: name)")
+    words.add_argument("--name", metavar="COLUMN", help="the column of names (default: name; with --no-header the first)")
     words.add_argument("--diagram", required=True, metavar="COLUMN", help="the column of diagrams: braid words, arc presentations, PD or DT codes")
     words.add_argument("--strands", metavar="COLUMN", help="the column of the numbers of strands; an empty field there: as few as do")
     asked = words.add_mutually_exclusive_group()

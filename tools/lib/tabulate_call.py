@@ -63,7 +63,7 @@ def parser():
     words.add_argument("what", metavar="WHAT", help="a number of crossings, a folder or a table")
     words.add_argument("folder", metavar="FOLDER", help="where the table is written, and what is known is kept")
     words.add_argument("--table", metavar="FILE", help="the table of knots that has the names (default: tables/prime-knots-to-12.csv)")
-    words.add_argument("--name", default="name", metavar="COLUMN", help="the column of names of a table (default: name)")
+    words.add_argument("--name", metavar="COLUMN", help="the column of names of a table (default: name; with --no-header the first)")
     words.add_argument("--diagram", metavar="COLUMN", help="the column of diagrams (default: the only one that has them by its title)")
     words.add_argument("--strands", metavar="COLUMN", help="the column of the numbers of strands")
     words.add_argument("--as", dest="as_kind", choices=("braid", "dt", "pd"), help="what each entry of the column is")
