@@ -2,7 +2,8 @@
 
 An edit in the body of one function changes no contract, so no other function's proof depends on it but where functions share one proof.
 One check with such edits in place, each in another function, therefore says of each whether it is refused: where rt doesn't prove its
-function, and names an error in that function itself. Whatever else a check says settles nothing, and the edit is tried alone."""
+function, and names an error in that function itself. What the function calls counts by its contract there, also where it isn't proved.
+Whatever else a check says settles nothing, and the edit is tried alone."""
 import collections
 import contextlib
 import os
@@ -100,6 +101,9 @@ def place_of(edit, folder, crate, functions):
 
 
 REFUSED, WAITS, UNSURE = "refused", "waits", "unsure"
+# Of a function in which nothing is wrong rt says no more than that others, which it calls, aren't proved.
+CALLS = re.compile("it calls|it passes|a call of")
+CALLS_ALONE = re.compile(f"(?:not proved|no proof):? (?:{CALLS.pattern}) [^;]*$")
 # What rt says of code that it could not read: such an edit is a bad one. And of proof files that name what an edit took away.
 UNREAD = re.compile(r"error(?:\[[\w-]+\])?: (?!`[^`]*`: )|is not in scope|has no field|is no name|operand is missing|expected the end|cannot continue")
 MISSED = re.compile(r"has no field|is not in scope|has no `|was not admitted")
@@ -120,44 +124,22 @@ def said_of(place, lines):
 def judged(place, lines):
     """What a check of the edit's function comes to, and the line that says why.
 
-    It is refused where rt says that the function itself isn't proved, and at which goal. Where a function that it calls isn't proved either, the
-    edit waits for a check in which that one has no edit."""
+    It is refused where rt says that the function itself isn't proved, and at which goal. Where rt only says that a function that it calls isn't
+    proved, the edit waits for a check in which that one has no edit."""
     told = next((line for line in lines if line.startswith(f"fn {place.function}: ")), "")
     words = told.partition(": ")[2]
     code, proofs = said_of(place, lines)
     why = code + [line for line in proofs if not MISSED.search(line)]
     if not words.startswith(("not proved", "no proof")) or any(map(UNREAD.search, code)):
         return UNSURE, told
-    if re.search("it calls|it passes|a call of", words):
-        return WAITS, told
-    return (REFUSED, why[0]) if why else (UNSURE, told)
+    if why and not CALLS_ALONE.match(words):
+        return REFUSED, why[0]
+    return WAITS if CALLS.search(words) else UNSURE, told
 
 
-def unproved_calls(lines):
-    """By function, as a check says it, the functions that it calls and that are not proved."""
-    found = {}
-    for line in lines:
-        told = re.match(r"fn (\S+): (?:not proved|no proof)(.*)", line)
-        for called in re.findall(r"(?:it calls|it passes|a call of) (.*?)(?:, which|$)", told[2]) if told else ():
-            found.setdefault(told[1], set()).update(re.findall(r"\w+(?:::\w+)+", called))
-    return found
-
-
-def below(function, calls):
-    """The functions that a function calls, or that these call, without itself."""
-    found, left = set(), [function]
-    while left:
-        new = calls.get(left.pop(), set()) - found
-        found |= new
-        left += new
-    return found - {function}
-
-
-def split_by_function(names, places, calls):
-    """The first of these edits in each function that calls no other function with such an edit, as far as is known, and the others."""
-    functions = {places[name].function for name in names}
-    held = {it for it in functions if below(it, calls) & functions}
-    now, later, taken = [], [], held if held != functions else set()
+def split_by_function(names, places):
+    """The first of these edits in each function, and the others."""
+    now, later, taken = [], [], set()
     for name in names:
         (later if places[name].function in taken else now).append(name)
         taken.add(places[name].function)
@@ -166,10 +148,10 @@ def split_by_function(names, places, calls):
 
 def tried_together(places, check):
     """The names of those of these edits that are refused, each with the line that says why. `check` gives what rt says with the named edits in place."""
-    waiting, rounds, calls = list(places), [], {}
+    waiting, rounds = list(places), []
     while waiting or rounds:
         if not rounds:
-            now, waiting = split_by_function(waiting, places, calls)
+            now, waiting = split_by_function(waiting, places)
             rounds.append(now)
         now = rounds.pop()
         lines = check(now)
@@ -182,8 +164,6 @@ def tried_together(places, check):
             elif len(now) > 1:
                 rounds += [now[len(now) // 2 :], now[: len(now) // 2]]
             continue
-        for function, called in unproved_calls(lines).items():
-            calls.setdefault(function, set()).update(called)
         found = {name: judged(places[name], lines) for name in now}
         yield from ((name, why) for name, (kind, why) in found.items() if kind == REFUSED)
         waits = [name for name in now if found[name][0] == WAITS]

@@ -14,8 +14,8 @@ whatever it does. What `rt` has built in the work tree is taken over, so a tree 
 these proofs; what `rt ci` has kept saves none, since only `rt ci` reads it.
 
 Then edits that change the body of one function are tried together, in a tree beside the copy: one `rt check --only` has one in each
-function, and an edit is refused where its function isn't proved, an error is in that function, and no function that it calls is
-unproved. Bodies are not read by other functions' proofs, so this is what a check of each alone would say. All edits of which such a
+function, and an edit is refused where its function isn't proved and an error is in that function. Bodies are not read by other
+functions' proofs, which know a call by its contract alone, so this is what a check of each alone would say. All edits of which such a
 check doesn't say that, and those that change a contract, a definition, a type, a constant or several functions, are tried alone: the
 copy gets them in must-fail/, and `rt must-fail` gives their verdicts. So each verdict but `refused` is rt's own of that edit.
 Kit 13f tries as many of these side by side as RT_JOBS says.
@@ -398,8 +398,8 @@ class Trial:
 
 
 def proved_functions(lines):
-    """The functions that rt says are proved, by its names."""
-    return re.findall(r"(?m)^fn (\S+): proved$", "\n".join(lines))
+    """The functions that rt says are proved, by its names; those that may wait too."""
+    return re.findall(r"(?m)^fn (\S+): proved(?:, .*)?$", "\n".join(lines))
 
 
 def counted(verdicts):

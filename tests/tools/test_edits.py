@@ -59,7 +59,7 @@ if words[0] in ("check", "lib"):
         for made in ("incremental/work", "rlib/stamp")[:1 + (words[0] == "lib")]:
             os.makedirs("out/" + made.split("/")[0], exist_ok=True)
             open("out/" + made, "a").close()
-        print(*[f"fn {{it}}: proved" for it in found], sep="\\n")
+        print(*[f"fn {{it}}: proved" + ", may wait" * it.endswith("two") for it in found], sep="\\n")
         sys.exit(0)
     asked = [it for it in words[words.index("--only") + 1 :: 2]]
     if any(found[it][1] in ("bad", "nowhere") for it in asked):
@@ -69,11 +69,13 @@ if words[0] in ("check", "lib"):
         row, says = found[it]
         behind = [f"{{name}}::{{other}}" for other in says.split()[1:]]
         behind = [other for other in behind if other in asked and found[other][1].split()[:1] in (["refused"], ["calls"])]
-        if behind:
-            print(f"fn {{it}}: no proof: it calls `{{behind[0]}}`, which is not proved")
-        elif says in WHY or says.startswith("calls"):
+        call = f"it calls `{{behind[0]}}`, which is not proved" if behind else ""
+        if behind and says.startswith("calls"):
+            print(f"fn {{it}}: no proof: {{call}}")
+        elif says in WHY or says.startswith(("calls", "refused")):
             print(WHY.get(says, WHY["refused"]).format(row, it.split("::")[1]))
-            print(f"fn {{it}}: " + ("not proved" if says in ("answers", "names") else "no proof: expected answers; `search` did not prove `returns-then`"))
+            print(f"fn {{it}}: " + ("not proved" if says in ("answers", "names") else "no proof: expected answers; `search` did not prove `returns-then`")
+                  + (f"; {{call}}" if call else ""))
         else:
             print(f"fn {{it}}: " + {{"unsure": "could not tell", "silent": "not proved"}}.get(says, "proved"))
     print("only=1 proved=0")
@@ -267,12 +269,11 @@ class Together(EditsTest):
         self.assertEqual(self.run_low()[0], 0)
         self.assertEqual(self.checks(), ["one two", "one"])
 
-    def test_a_function_is_left_out_while_one_that_it_calls_has_edits(self):
-        self.put("crates/low/src/lib.rt", re.sub(r"impl Three \{\n    (.*\n.*\n)    \}\n", r"\1", CODE).replace("#[cycle(four)]\n", ""))
-        self.bodies(a=(1, "calls two"), b=(2, "calls three"), c=(3, "refused"), d=(3, "refused"), e=(4, "refused"), f=(4, "refused"))
+    def test_an_error_of_its_own_is_one_whatever_the_function_calls(self):
+        self.bodies(a=(1, "refused two"), b=(2, "refused"))
         status, lines = self.run_low()
-        self.assertEqual((status, lines[-1]), (0, "in all: 6 refused, 0 NOT REFUSED, 0 BAD EDIT, 0 NOT TRIED"))
-        self.assertEqual(self.checks(), ["one two three four", "three four", "two", "one"])
+        self.assertEqual((status, lines[-1]), (0, "in all: 2 refused, 0 NOT REFUSED, 0 BAD EDIT, 0 NOT TRIED"))
+        self.assertEqual(self.checks(), ["one two"])
 
     def test_an_error_in_a_proof_file_of_the_function_is_one_of_its_own(self):
         self.bodies(a=(1, "answers"))
