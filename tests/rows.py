@@ -341,6 +341,35 @@ def is_sanitized(program):
         return False
 
 
+def limit_of(case):
+    """What limits the address space of a call, before it begins; None where a case has no limit."""
+    if case.memory is None:
+        return None
+    size = case.memory * 1024
+
+    def limit():
+        resource.setrlimit(resource.RLIMIT_AS, (size, size))
+        resource.setrlimit(resource.RLIMIT_CORE, (0, 0))
+
+    return limit
+
+
+@contextlib.contextmanager
+def input_of(case, folder):
+    """The input of a case: its bytes, a terminal at which they are typed, or an open file, or a folder where it can't be read."""
+    if case.is_typed:
+        with terminals.typed(case.given) as terminal:
+            yield terminal
+    elif case.input or case.given is None:
+        source = os.open(os.path.join(folder, case.input) if case.input else "/", os.O_RDONLY)
+        try:
+            yield source
+        finally:
+            os.close(source)
+    else:
+        yield case.given
+
+
 class Pipes:
     """Named pipes in a folder while a call is made: one with a text gets it, and of one without what comes is kept in `got`."""
 
@@ -406,13 +435,8 @@ class Runner:
     def call_within(self, case):
         """A call in so much address space."""
         next(self.counter)
-        kilobytes = case.memory
-
-        def limit():
-            resource.setrlimit(resource.RLIMIT_AS, (kilobytes * 1024, kilobytes * 1024))
-            resource.setrlimit(resource.RLIMIT_CORE, (0, 0))
-        done = subprocess.run([self.programs[case.words[0]], *case.words[1:]], input=case.given, capture_output=True, preexec_fn=limit, timeout=PATIENCE,
-                              check=False)
+        done = subprocess.run([self.programs[case.words[0]], *case.words[1:]], input=case.given, capture_output=True, preexec_fn=limit_of(case),
+                              timeout=PATIENCE, check=False)
         return Ended(done.returncode, done.stdout, done.stderr)
 
     def call_full(self, case):
@@ -487,8 +511,8 @@ class Runner:
             return [differs("standard error", ended.error, text)]
         next(self.counter)
         command = [self.programs["knot"], *case.words[1:]]
-        with terminals.typed(case.given) if case.is_typed else contextlib.nullcontext(case.given) as given:
-            status, said, told = terminals.run(command, given, ended.folder, PATIENCE)
+        with input_of(case, ended.folder) as given, open("/dev/full", "wb") if case.is_full else contextlib.nullcontext(subprocess.PIPE) as output:
+            status, said, told = terminals.run(command, given, ended.folder, PATIENCE, output, limit_of(case))
         return [differs("what a terminal gets", told, text), differs("the answer beside a terminal", (status, said), (ended.status, ended.text))]
 
     def part_taken(self, _case, ended, _number, _text):

@@ -23,9 +23,9 @@ def typed(text):
         os.close(terminal)
 
 
-def run(command, given, folder=None, timeout=None):
+def run(command, given, folder=None, timeout=None, output=subprocess.PIPE, before=None):
     """Runs a command on these bytes, or on an open file, and answers its status, its standard output, and what the terminal took, byte for
-    byte."""
+    byte. Standard output may be an open file too, and nothing is answered of it then. `before` is called in the command's process, before it."""
     reader, terminal = pty.openpty()
     taken, is_text = [], isinstance(given, bytes)
 
@@ -43,7 +43,8 @@ def run(command, given, folder=None, timeout=None):
     try:
         # else a line feed would come as two bytes
         tty.setraw(terminal)
-        with subprocess.Popen(command, stdin=subprocess.PIPE if is_text else given, stdout=subprocess.PIPE, stderr=terminal, cwd=folder) as process:
+        with subprocess.Popen(command, stdin=subprocess.PIPE if is_text else given, stdout=output, stderr=terminal, cwd=folder,
+                              preexec_fn=before) as process:
             os.close(terminal)
             terminal = None
             thread = threading.Thread(target=take)
@@ -56,7 +57,7 @@ def run(command, given, folder=None, timeout=None):
             finally:
                 process.wait()
                 thread.join()
-        return process.returncode, text, b"".join(taken)
+        return process.returncode, text or b"", b"".join(taken)
     finally:
         os.close(reader)
         if terminal is not None:

@@ -17,6 +17,7 @@ KNOWN = {"MAX_SIZE": 6}
 LAUNCHER = """#!/bin/sh
 if [ "$1" = sample ]; then
     cat >/dev/null 2>&1 && exit 5
+    [ -t 2 ] && echo unread >&2
     exit 0
 fi
 exec '{python}' '{path}' "$@"
@@ -24,11 +25,23 @@ exec '{python}' '{path}' "$@"
 
 # A program that takes lines `good`, writes them again as one line, and names the first other one.
 STAND_IN = """import os
+import resource
 import sys
 if sys.argv[1:] == ["tell"]:
     if sys.stderr.isatty():
         print("told", file=sys.stderr)
     sys.exit(1)
+if sys.argv[1:] in (["brim"], ["room"]):
+    if sys.argv[1] == "room":
+        told = resource.getrlimit(resource.RLIMIT_AS)[0]
+    else:
+        try:
+            told = os.write(1, b"good")
+        except OSError:
+            told = "full"
+    if sys.stderr.isatty():
+        print(told, file=sys.stderr)
+    sys.exit(6)
 if sys.argv[1:] == ["chatter"]:
     print("told", file=sys.stderr)
     sys.exit(0)
@@ -140,6 +153,39 @@ answer 0
     a
 
     b
+"""
+
+# What a terminal gets where memory, the output or the input is as a row says.
+AT_A_TERMINAL = """== little memory
+knot room
+memory 4000000
+answer 6
+error
+    4096000000
+
+== a full output
+knot brim
+full output
+answer 6
+error
+    full
+
+== an input that can't be read
+knot sample
+unreadable input
+answer 0
+error
+    unread
+
+== a file
+knot typed
+file here
+    good
+input is here
+answer 0
+    elsewhere good
+error
+    typed good
 """
 
 # What a call writes, and of each kind a row that fails.
@@ -342,6 +388,9 @@ class Rows(unittest.TestCase):
 
     def test_streams_and_files(self):
         self.assertEqual(self.found(STREAMS), (0, "3 cases, 4 calls, 0 different\n"))
+
+    def test_a_terminal_beside_other_streams_and_little_memory(self):
+        self.assertEqual(self.found(AT_A_TERMINAL), (0, "4 cases, 8 calls, 0 different\n"))
 
     def test_knot_says_nothing_but_to_a_terminal(self):
         self.assertEqual(self.found("== one\nknot chatter\nanswer 0\n"), (
