@@ -9,4 +9,5 @@ mod Grids
 mod TableGrids
 mod TableFails
 mod NumbersFail
+mod CodeFails
 pub mod Replies

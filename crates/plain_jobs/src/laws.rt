@@ -9,6 +9,7 @@ ghost use Rattle.braid_moves.specs.declared.ruling.BraidRuling.TheVariants.{Acce
 ghost use Rattle.braid_moves.specs.Ruling.{ruling};
 ghost use Rattle.verdict_core.specs.declared.problem.ProblemText.{ProblemText};
 ghost use Rattle.knot_text.specs.FirstBadLine.{FailsFirst};
+ghost use Rattle.code_text.specs.CodeReading.{code_in};
 ghost use Rattle.number_text.specs.declared.said.Said.{Said};
 ghost use Rattle.number_text.specs.Said.{said_of};
 ghost use Rattle.number_text.specs.Blocks.{blocks_in};
@@ -45,6 +46,11 @@ pub fn a_certificate_fails_at_its_first_bad_line()
 pub fn a_text_of_blocks_fails_at_its_first_bad_line()
     ensures numbers { FailsFirst numbers_in }
     ensures blocks { FailsFirst blocks_in }
+{}
+
+/// The text of a code fails at its first bad line, or where rows are still due at its end.
+pub fn a_code_fails_at_its_first_bad_line()
+    ensures { FailsFirst code_in }
 {}
 
 /// What a reader without tables reads as a problem with what is said of its two diagrams, in one of the first three versions, is still read so. A
