@@ -28,8 +28,8 @@ pub record WritesUsage (sink : Change) (exit : ExitCode) : Type 0 where
   pub number : exit_status exit ≡ status_number status
   pub written : IsWritten sink check_usage_line Usage status
 
--- no word follows the program's name, and the program ended as a call of the input; or one does, nothing was read, and the usage line was
--- written; or no words came, and nothing was read or written
+-- no word follows the program's name, and the program ended as a call of the input; or one does, nothing was read, and it ended as where the usage
+-- line is due; or the words could not be read, the exit status says why, and nothing was read or written
 abbrev pub EndsKnotCheck : Result (Vec (String Global) Global) NoWords → Change → Change → ExitCode → Type 0
 EndsKnotCheck (Ok words) source sink exit =
     ((length words.items ≤ 1) × IsExitOfCheck source sink exit)

@@ -27,7 +27,7 @@ pub fn run<S: Source, K: Sink>(alloc: Global, source: &mut S, sink: &mut K) -> S
     }
 }
 
-/// The reply to all that the source gives; the error is the status of a call that writes nothing.
+/// The reply to the input; the error is the status of a call that writes nothing.
 fn answer_source<S: Source>(alloc: Global, source: &mut S) -> Result<PlainReply, Status>
     ensures made { IsCheckReplyMade (source_change S.Source source.old source.new) result }
     ensures count { S.faults source.old ≤ S.faults source.new }

@@ -1,4 +1,4 @@
-//! All that the separate checker does: a ruling on the input, the usage line where words came, or nothing where the system gives no words.
+//! All that the separate checker does: a ruling on the input, the usage line where a word follows its name, or nothing where the words can't be read.
 ghost use Rattle.knot_ports.specs.Change.{port_change};
 ghost use Rattle.check_job.specs.CheckExit.{IsExitOfCheck, WritesUsage, EndsKnotCheck};
 
@@ -12,9 +12,9 @@ use std::process::ExitCode;
 /// What is written where words came: none are taken.
 const USAGE: &[u8] = b"usage: knot_check < INPUT\n";
 
-/// Rules on the input, by `call`, where no word follows the program's name. Otherwise it writes the usage line, reads nothing, and ends with 2, or
-/// with 6 where the line can't be written. Where no words came it ends with 7 or 10, and neither reads nor writes. It is lent memory, and no
-/// stream but the ports.
+/// Rules on the input, by `call`, where no word follows the program's name. Where one does it writes the usage line, reads nothing, and ends with 2,
+/// or with 6 where the line can't be written. Where the words can't be read it ends with 7 or 10, and neither reads nor writes. It is lent memory,
+/// and no stream but the ports.
 pub fn program<R: Read + Drop, W: Write + Drop>(
     alloc: Global,
     words: Result<Vec<String>, NoWords>,

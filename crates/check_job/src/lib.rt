@@ -1,5 +1,5 @@
 //! The job `check`: what is said of two diagrams, or a table of knots, is read, ruled on, and answered.
-//! What accepted bytes say is true, and all others are refused by their first bad line or their first cause.
+//! What accepted bytes say is true, and all others are refused by their length, their first bad line or their first cause.
 #![tactic(auto)]
 
 mod call;

@@ -42,7 +42,7 @@ impl Draft {
 
 /// A draft of a diagram of a code, of at most `most` columns; of one with more only the number of columns is given.
 ///
-/// The code must have no fault (`first_code_fault` of code_rows): of another one, the draft may be one of no diagram, or of that of
+/// The code must have no fault (`first_fault` of code_rows): of another one, the draft may be one of no diagram, or of that of
 /// another code. It fails only if memory runs out.
 pub fn draft_of(alloc: Global, code: &Code, most: usize) -> Result<Draft, OutOfMemory>
     ensures drawn { IfOk result (λ draft. draft.columns ≤ most → IsDrawn code.now draft) }

@@ -19,12 +19,21 @@ use Rattle.knot_jobs.specs.Call.{with_workers, Call, TakesAll, Comes, Loses}
 use Rattle.knot_words.specs.Limits.{limit_of, part_for}
 use Rattle.knot_jobs.specs.Answer.{leaves_no_choice, IsOver, IsNotOver, AnswersText, Answers}
 use Rattle.knot_ports.specs.Change.{Change, IsUntouched, Failed}
+use Rattle.knot_ports.specs.declared.limits.TheConstants.{MAX_CERTIFICATE}
+use Rattle.knot_words.specs.declared.job.Job.{Job}
+use Rattle.knot_words.specs.declared.job.Job.TheVariants.{Plain}
+use Rattle.knot_words.specs.declared.job.PlainJob.TheVariants.{Check}
+use Rattle.reply_text.specs.declared.reply.PlainReply.{PlainReply}
+use Rattle.check_job.specs.Input.{certificate_of}
+use Rattle.check_job.specs.Answer.{AnswersCheck}
+use Rattle.check_job.specs.Ending.{IsCheckReplyDue}
 use Rattle.knot_jobs.specs.Ending.{usage_line, IsReplyTo, IsAnswered, IsMisused, IsDue, IsCutOff, LosesInput, Writes, EndsAnyCall}
 use Rattle.knot_jobs.specs.ReplyTruth.{IsTrueReply, IsTrueOf, TellsOnlyTruth, Goes}
 use Rattle.check_job.specs.Ports.{IsWritten}
 use Rattle.knot_jobs.specs.Delivered.{IsWithoutReply, IsMadeOf, IsDelivered, IsRefused, IsEnded}
 use Rattle.knot_words.proofs.AskedOnce.{asked_once, never_both}
 use Rattle.knot_jobs.proofs.OneAnswer.{answer_status, answers_once, not_decide, by_so_many, not_over}
+use Rattle.knot_jobs.proofs.Plainly.{AnswersAs, read_plainly}
 
 pub usage_ends : (call : Call) (s : Status) → AsksNothing call.words → IsUntouched call.source → IsWritten call.sink usage_line status.Usage s
     → EndsAnyCall call s None
@@ -215,6 +224,44 @@ outcome_once input a b asked r r' words left left' asks fixed one two =
         | inr y ↦ absurd (never_both b.words asked asks' y.refused)
       ]
       | inr x ↦ absurd (never_both a.words asked asks x.refused)
+    ]
+
+-- ---- the separate checker
+
+-- the answers of a job to the bytes of any input
+abbrev AnswersBy : Job → Asked → List ℕ → Reply → Type 0
+AnswersBy job asked bytes reply =
+    (IsOver (limit_of job) bytes × (reply ≡ without_search too_long)) ⊎ (IsNotOver (limit_of job) bytes × AnswersAs job asked bytes reply)
+
+-- what is due to an input of the checker answers the bytes that come for `check`
+check_answered : (asked : Asked) (input : List ℕ) (source : Change) (other : PlainReply) → source.before ≡ Some input → IsCheckReplyDue source other
+    → AnswersBy (Plain Check) asked (take (MAX_CERTIFICATE + 1) input) (without_search other)
+check_answered asked input source other left due = elim due [
+  | inl a ↦
+      let consumed = subst (λ l. Consumes l source.after a.bytes) left a.came.consumed in
+      let came = whole_once MAX_CERTIFICATE input source.after a.bytes consumed a.came.within a.came.ended in
+      subst (λ bs. AnswersBy (Plain Check) asked bs (without_search other)) came
+      (inr (a.came.within, read_plainly AnswersCheck (certificate_of a.bytes) other a.answer))
+  | inr a ↦
+      let consumed = subst (λ l. Consumes l source.after a.bytes) left a.came.consumed in
+      let came = over_once MAX_CERTIFICATE input source.after a.bytes consumed a.came.over in
+      let over = a.came.over in
+      subst (λ bs. AnswersBy (Plain Check) asked bs (without_search other)) came (inl (omega (arith, over), ap without_search a.is))
+]
+
+pub same_as_check : (input : List ℕ) (call : Call) (source : Change) (asked : Asked) (reply : Reply) (other : PlainReply)
+    → call.source.before ≡ Some input → source.before ≡ Some input → Asks call.words asked → asked.job ≡ Plain Check
+    → IsDue call reply → IsCheckReplyDue source other → reply ≡ without_search other
+same_as_check input call source asked reply other left left' asks job due due' =
+    let fixed : leaves_no_choice asked.job ≡ true = subst (λ (j : Job). leaves_no_choice j ≡ true) (sym job) refl in
+    let bytes = front (limit_of asked.job) input in
+    let second : Answers asked bytes (without_search other) =
+    subst (λ (j : Job). AnswersBy j asked (front (limit_of j) input) (without_search other)) (sym job) (check_answered asked input source other left' due') in
+    elim due [
+      | inl x ↦
+          let first = by_so_many call.searching asked bytes reply (not_decide asked.job fixed) (front_answered call asked input reply asks left x) in
+          answers_once asked bytes reply (without_search other) fixed first second
+      | inr x ↦ absurd (never_both call.words asked asks x.refused)
     ]
 
 -- ---- without faults

@@ -6,10 +6,15 @@ ghost use Rattle.knot_ports.specs.Status.{IsOfDefinedAnswer, IsOfAnswer};
 ghost use Rattle.certificate_check.specs.Decision.{IsDecision};
 ghost use Rattle.knot_words.specs.Limits.{limit_of, part_for};
 ghost use Rattle.knot_jobs.specs.Answer.{leaves_no_choice, IsNotOver, IsInShape, IsBeyondColumns, Answers};
-ghost use Rattle.knot_ports.specs.Change.{Failed};
+ghost use Rattle.knot_ports.specs.Change.{Change, Failed};
 ghost use Rattle.knot_jobs.specs.Call.{Call, with_workers};
 ghost use Rattle.knot_jobs.specs.Ending.{IsDue, EndsAnyCall};
 ghost use Rattle.knot_jobs.specs.ReplyTruth.{IsAcceptedByCheck};
+ghost use Rattle.knot_words.specs.declared.job.Job.TheVariants as job;
+ghost use Rattle.knot_words.specs.declared.job.PlainJob.TheVariants as plain;
+ghost use Rattle.reply_text.specs.declared.reply.PlainReply.{PlainReply};
+ghost use Rattle.search_jobs.specs.Reply.{without_search};
+ghost use Rattle.check_job.specs.Ending.{IsCheckReplyDue};
 
 use knot_ports::Status;
 use knot_words::Asked;
@@ -43,6 +48,19 @@ pub fn the_words_and_the_input_decide()
         → IsDue call reply
         → IsDue again other
         → reply ≡ other }
+{}
+
+/// The job `check` and the separate checker reply the same to the same input, where contracts know the bytes of both sources: what is due to a call
+/// that asks for `check` is what is due to a call of the checker.
+pub fn the_checker_replies_as_check()
+    ensures { (input : List ℕ) (call : Call) (source : Change) (asked : Asked) (reply : Reply) (other : PlainReply)
+        → call.source.before ≡ Some input
+        → source.before ≡ Some input
+        → Asks call.words asked
+        → asked.job ≡ job.Plain plain.Check
+        → IsDue call reply
+        → IsCheckReplyDue source other
+        → reply ≡ without_search other }
 {}
 
 /// Where no count of faults rose, a call ends with the status of an answer that the job has to its input, and keeps the search
