@@ -12,7 +12,7 @@ use std::process::ExitCode;
 const STACK: usize = 4_194_304;
 
 fn main(rt: HostRuntime) -> ExitCode {
-    on_stack(&rt, rt.alloc(), STACK, move || -> ExitCode {
+    let ended = on_stack(&rt, rt.alloc(), STACK, move || -> ExitCode {
         program(
             &rt,
             rt.alloc(),
@@ -27,6 +27,16 @@ fn main(rt: HostRuntime) -> ExitCode {
                 output: StdSink::new(rt.stdout()),
             },
         )
-    })
-    .unwrap_or(NoWords::Memory.exit_code())
+    });
+    match ended {
+        Ok(code) => code,
+        Err(_) => end_without_stack(&rt),
+    }
+}
+
+/// Reports that there is no memory for the stack, as `program` reports that there is none for the words: the exit status.
+fn end_without_stack(rt: &HostRuntime) -> ExitCode {
+    let why = NoWords::Memory;
+    let _told = eprintln!(rt; "seek: {why}");
+    why.exit_code()
 }

@@ -4,10 +4,10 @@ ghost use Rattle.knot_ports.specs.declared.status.Status.TheVariants as status;
 ghost use Rattle.seek_call.specs.Failure.{failure_status};
 
 use crate::failure::Failure;
-use knot_ports::Status;
+use knot_ports::{MAX_INPUT, Status};
 use seek_core::{Tried, join_parts, part_with_line};
 use seek_faults::{BraidReason, Reason, reason_at};
-use seek_parts::{PartFault, Parts};
+use seek_parts::Parts;
 use seek_words::{Asked, Talk};
 use std::alloc::Global;
 use std::fmt;
@@ -38,12 +38,14 @@ pub(crate) fn tell_tried<R: Eprint>(rt: &R, asked: &Asked, tried: &Tried, made: 
     Status::Unknown
 }
 
-/// Reports that the input is too long: the status.
-pub(crate) fn tell_long<R: Eprint>(rt: &R, parts: &Parts) -> Status
+/// Reports that the input is too long: the status. A file that is too long alone is refused before, so no part is named.
+pub(crate) fn tell_long<R: Eprint>(rt: &R) -> Status
     ensures { result ≡ status.Limit }
 {
-    let name = parts.last_name().unwrap_or(INPUT);
-    tell(rt, &Failure::Part(PartFault::Long { name }))
+    let _told = eprintln!(rt;
+        "seek: all parts of the problem together have more than {MAX_INPUT} bytes"
+    );
+    Status::Limit
 }
 
 /// Reports what went wrong: the status.
@@ -135,7 +137,14 @@ impl<'a> fmt::Display for InWords<'a> {
         match self.tried.blocks {
             0 if self.has_files => Ok(()),
             0 => write!(f, ", no file of --weights was read for cocycles"),
-            blocks => write!(f, ", nor do numbers by {blocks} quandles of --weights"),
+            1 => write!(
+                f,
+                ", numbers by one quandle of --weights don't distinguish them"
+            ),
+            blocks => write!(
+                f,
+                ", numbers by {blocks} quandles of --weights don't distinguish them"
+            ),
         }
     }
 }
@@ -143,16 +152,25 @@ impl<'a> fmt::Display for InWords<'a> {
 /// Writes which quandles were tried.
 fn write_quandles<W: fmt::Write>(f: &mut fmt::Formatter<W>, quandles: &[Listed]) -> fmt::Result {
     match quandles.last() {
+        Some(only) if quandles.len() == 1 => write_alone(f, Name(only)),
         Some(last) => write_vain(f, quandles.len(), Name(last)),
         None => write!(f, " none of the quandles tried fits both"),
     }
 }
 
-/// Writes that so many quandles were tried in vain, up to this one.
+/// Writes that a single quandle was tried in vain.
+fn write_alone<W: fmt::Write>(f: &mut fmt::Formatter<W>, only: Name) -> fmt::Result {
+    write!(
+        f,
+        " the one quandle tried that fits both, {only}, doesn't distinguish them"
+    )
+}
+
+/// Writes that so many quandles were tried in vain, and this one last.
 fn write_vain<W: fmt::Write>(f: &mut fmt::Formatter<W>, count: usize, last: Name) -> fmt::Result {
     write!(
         f,
-        " none of the {count} quandles tried that fit both, up to {last}, distinguishes them"
+        " none of the {count} quandles tried that fit both, the last of them {last}, distinguishes them"
     )
 }
 

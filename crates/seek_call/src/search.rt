@@ -129,7 +129,7 @@ impl<'a, R: Threads + Sync + Eprint + Clock> Search<'a, R> {
             Ending::Malformed { line } | Ending::Limit { line } => {
                 tell_line(rt, self.alloc, parts, *line, ended.ending.status())
             }
-            Ending::TooLong => tell_long(rt, parts),
+            Ending::TooLong => tell_long(rt),
             Ending::WriteFault => tell(rt, failure),
             Ending::OutOfMemory => tell(rt, &Failure::OutOfMemory),
         }

@@ -19,7 +19,7 @@ pub enum PartFault<'a> {
         name: &'a str,
         error: Option<io::Error>,
     },
-    /// There are more than `MAX_INPUT` bytes.
+    /// A file has more than `MAX_INPUT` bytes.
     Long {
         name: &'a str,
     },
@@ -104,7 +104,7 @@ fn write_code<W: fmt::Write>(
     match fault {
         TextFault::Malformed { line } => write!(
             f,
-            "{name}, line {line} is not what is due in a planar diagram code"
+            "{name}, line {line} is not what is due in a planar diagram code; tools/code.py makes diagrams of DT and Gauss codes"
         ),
         TextFault::Limit { line } => write!(f, "{name}, line {line} exceeds a limit"),
         TextFault::OutOfMemory => write_memory(f),
@@ -153,9 +153,7 @@ impl<'a> fmt::Display for PartFault<'a> {
                 }
                 write_job(f, name)
             }
-            PartFault::Long { name } => {
-                write!(f, "{name} makes the problem longer than {MAX_INPUT} bytes")
-            }
+            PartFault::Long { name } => write!(f, "{name} has more than {MAX_INPUT} bytes"),
             PartFault::NotOne { name, why } => match why.line() {
                 Some(line) => write!(f, "{name}, line {line}: {why}"),
                 None => write!(f, "{name}: {why}"),

@@ -65,11 +65,6 @@ impl<'a> Parts<'a> {
         self.names.get(part).copied()
     }
 
-    /// The name of the last part; None without parts.
-    pub fn last_name(&self) -> Option<&'a str> {
-        self.names.last().copied()
-    }
-
     /// Reads all that the words name. There are no parts before.
     fn read_all<F: Texts>(
         &mut self,
