@@ -1,9 +1,13 @@
 /* Refuses requests for memory: the one whose number REFUSE names, from 0, and with REFUSE_ON all behind it too. REFUSE_COUNT names a
-   file of eight bytes, in which the number of requests is counted. */
+   file of eight bytes, in which the number of requests is counted. REFUSE_CALL names a call whose every request fails: rename or fsync. */
 #include <errno.h>
 #include <fcntl.h>
+#include <stdio.h>
 #include <stdlib.h>
+#include <string.h>
 #include <sys/mman.h>
+#include <sys/syscall.h>
+#include <unistd.h>
 
 extern void *__libc_malloc(size_t size);
 extern void *__libc_realloc(void *old, size_t size);
@@ -43,4 +47,23 @@ void *malloc(size_t size)
 void *realloc(void *old, size_t size)
 {
     return is_refused() ? NULL : __libc_realloc(old, size);
+}
+
+static int is_failing(const char *call)
+{
+    const char *named = getenv("REFUSE_CALL");
+    if (!named || strcmp(named, call))
+        return 0;
+    errno = EIO;
+    return 1;
+}
+
+int rename(const char *from, const char *to)
+{
+    return is_failing("rename") ? -1 : renameat(AT_FDCWD, from, AT_FDCWD, to);
+}
+
+int fsync(int file)
+{
+    return is_failing("fsync") ? -1 : (int)syscall(SYS_fsync, file);
 }

@@ -10,6 +10,7 @@ from common import ROOT, scratch
 
 sys.path.insert(0, os.path.join(ROOT, "tests"))
 import rows  # noqa: E402
+import rows_language  # noqa: E402
 
 KNOWN = {"MAX_SIZE": 6}
 
@@ -27,6 +28,7 @@ exec '{python}' '{path}' "$@"
 STAND_IN = """import os
 import resource
 import sys
+import time
 if sys.argv[1:] == ["tell"]:
     if sys.stderr.isatty():
         print("told", file=sys.stderr)
@@ -42,6 +44,8 @@ if sys.argv[1:] in (["brim"], ["room"]):
     if sys.stderr.isatty():
         print(told, file=sys.stderr)
     sys.exit(6)
+if sys.argv[1:] == ["sleep"]:
+    time.sleep(60)
 if sys.argv[1:] == ["chatter"]:
     print("told", file=sys.stderr)
     sys.exit(0)
@@ -344,17 +348,17 @@ NO_ROWS = (
 
 class Lines(unittest.TestCase):
     def test_escapes_stand_for_bytes(self):
-        self.assertEqual(rows.text_of(["a\\tb\\r", "\\xff\\0\\\\", "c\\n\\", "\\"], KNOWN), b"a\tb\r\n\xff\0\\\nc\n")
-        self.assertEqual(rows.text_of(["▷ …"], KNOWN), "▷ …\n".encode())
+        self.assertEqual(rows_language.text_of(["a\\tb\\r", "\\xff\\0\\\\", "c\\n\\", "\\"], KNOWN), b"a\tb\r\n\xff\0\\\nc\n")
+        self.assertEqual(rows_language.text_of(["▷ …"], KNOWN), "▷ …\n".encode())
 
     def test_numbers_and_copies_are_made(self):
-        self.assertEqual(rows.bytes_of("x \\{0 to MAX_SIZE - 4} \\{MAX_SIZE + 1} \\{3}", KNOWN), b"x 0 1 2 7 3")
-        self.assertEqual(rows.bytes_of('braid 2\\{" 1" x MAX_SIZE - 4}\\{"a\\n" x 2}', KNOWN), b"braid 2 1 1a\na\n")
-        self.assertEqual(rows.bytes_of("\\{alexander MAX_SIZE - 3 by 2}", KNOWN), b"0 2 1\n2 1 0\n1 0 2")
+        self.assertEqual(rows_language.bytes_of("x \\{0 to MAX_SIZE - 4} \\{MAX_SIZE + 1} \\{3}", KNOWN), b"x 0 1 2 7 3")
+        self.assertEqual(rows_language.bytes_of('braid 2\\{" 1" x MAX_SIZE - 4}\\{"a\\n" x 2}', KNOWN), b"braid 2 1 1a\na\n")
+        self.assertEqual(rows_language.bytes_of("\\{alexander MAX_SIZE - 3 by 2}", KNOWN), b"0 2 1\n2 1 0\n1 0 2")
 
     def test_what_stands_for_nothing_is_an_error(self):
         for line in ("\\q", "\\{MIN_SIZE}", "\\{MAX_SIZE * 2}", "\\{}"):
-            self.assertRaises(rows.RowError, rows.bytes_of, line, KNOWN)
+            self.assertRaises(rows_language.RowError, rows_language.bytes_of, line, KNOWN)
 
 
 class Rows(unittest.TestCase):
@@ -368,7 +372,7 @@ class Rows(unittest.TestCase):
         os.chmod(self.stand_in, 0o755)
         os.mkdir(os.path.join(self.folder, "rows"))
         # (nor is a checker that was built in this tree asked)
-        for patch in (mock.patch.object(rows, "ROWS", os.path.join(self.folder, "rows")), mock.patch.object(rows, "built_checker", lambda: None)):
+        for patch in (mock.patch.object(rows_language, "ROWS", os.path.join(self.folder, "rows")), mock.patch.object(rows, "built_checker", lambda: None)):
             patch.start()
             self.addCleanup(patch.stop)
 
@@ -395,6 +399,11 @@ class Rows(unittest.TestCase):
     def test_knot_says_nothing_but_to_a_terminal(self):
         self.assertEqual(self.found("== one\nknot chatter\nanswer 0\n"), (
             1, "some: one\n    standard error is b'told\\n', and not b''\n1 cases, 1 calls, 1 different\n"))
+
+    def test_a_call_that_does_not_end_is_a_difference_of_its_own(self):
+        with mock.patch.object(rows, "PATIENCE", 1):
+            self.assertEqual(self.found("== one\nknot sleep\ntaken\n"), (
+                1, "some: one\n    a call didn't end within 1 seconds\n1 cases, 1 calls, 1 different\n"))
 
     def test_a_word_of_other_bytes(self):
         self.assertEqual(self.found("== one\nknot word\nword \\xffa\nanswer 10\n"), (0, "1 cases, 1 calls, 0 different\n"))
@@ -461,7 +470,7 @@ class Rows(unittest.TestCase):
 
 class Tree(unittest.TestCase):
     def test_the_rows_of_the_tree_are_rows(self):
-        cases = rows.all_cases([])
+        cases = rows_language.all_cases([])
         names = [(subject, case.name) for subject, case in cases]
         self.assertGreater(len(names), 400)
         self.assertEqual(len(names), len(set(names)))
