@@ -25,23 +25,24 @@ import os
 import resource
 import sys
 import time
-from concurrent.futures import ThreadPoolExecutor
 
 sys.path.insert(0, os.path.join(os.path.dirname(os.path.dirname(os.path.abspath(__file__))), "tools"))
-from lib.census_plan import blocks_of as plan_blocks
-from lib.table_book import Book
-from lib.table_further import rows_by
+from lib.calls.pools import threads
+from lib.calls.store import Store
+from lib.tables.blocks import split_blocks as plan_blocks
+from lib.tables.further import BOOK, rows_by
 from knot_workbench import use
-from knot_workbench.diagrams import MAX_ORDER
-from knot_workbench.knot_rows import blocks_of, may_be_one, opposite, row_of, text_of
-from knot_workbench.knot_tables import BOTH, MIRRORED, REVERSED, SAME, TURNS, UNKNOT, KnotTable, default_table, text_in
+from knot_workbench.programs import end_calls
+from knot_workbench.quandles import MAX_ORDER
+from knot_workbench.tables.knots import BOTH, MIRRORED, REVERSED, SAME, TURNS, UNKNOT, KnotTable, default_table, text_in
+from knot_workbench.tables.numbers import blocks_of, may_be_one, opposite, row_of, text_of_row
 from measure import PROGRAM, processor_seconds
 
 # Two knots that aren't distinguished, the second after a turn; or a knot and itself after one.
 Left = collections.namedtuple("Left", "one other turn")
 
 
-class Rows:
+class KnotRows:
     """The rows of knots and of their mirror images by some blocks."""
 
     def __init__(self, blocks, rows):
@@ -60,7 +61,7 @@ class Rows:
 
     def key(self, name, turn):
         """The same as a text."""
-        return "|".join(text_of(row, self.blocks) for row in self.turned(name, turn))
+        return "|".join(text_of_row(row, self.blocks) for row in self.turned(name, turn))
 
     def is_wide(self, name):
         """Whether some entry says nothing."""
@@ -85,15 +86,15 @@ def left_by(rows):
     return sorted(kept, key=lambda left: (order[left.one], order[left.other], left.turn))
 
 
-def left_by_list(known, left, path, each, book):
+def left_by_list(known, left, path, each, store):
     """What a further list leaves of what is left."""
     listed = text_in(path)
     due = sorted({name for one in left for name in one[:2]}, key=list(known.knots).index)
-    rows = Rows(blocks_of(listed), rows_by(known, due, listed, each, book))
+    rows = KnotRows(blocks_of(listed), rows_by(known, due, listed, each, store))
     return [one for one in left if rows.may_be(one)]
 
 
-def classes_of(names, left):
+def undistinguished(names, left):
     """How many classes knots fall into that aren't distinguished, and how many of these have one knot."""
     head = {name: name for name in names}
 
@@ -123,12 +124,12 @@ def own(some, *turns):
     return {one.one for one in some if one.one == one.other and one.turn in turns}
 
 
-KINDS = ("pairs", "mirrors", "reverses")
+LEFT_KINDS = ("pairs", "mirrors", "reverses")
 
 
 def kind_of(one):
     """Of which of the kinds a thing left is."""
-    return KINDS[0 if one.one != one.other else 1 if one.turn.is_mirrored else 2]
+    return LEFT_KINDS[0 if one.one != one.other else 1 if one.turn.is_mirrored else 2]
 
 
 def pairs_in(left):
@@ -136,9 +137,9 @@ def pairs_in(left):
     return len({(one.one, one.other) for one in left if one.one != one.other})
 
 
-def report(said, names, left, joined, clock):
+def report_left(said, names, left, joined, clock):
     """A line on what is left, and on what is joined."""
-    count, alone = classes_of(names, left)
+    count, alone = undistinguished(names, left)
     mirrored, reverse = own(joined, MIRRORED, BOTH), own(joined, REVERSED)
     print(f"{said}: {pairs_in(left)} of {len(names) * (len(names) - 1) // 2} pairs aren't distinguished, {count} classes, {alone} of one knot; neither joined "
           f"to nor distinguished from the mirror image {len(own(left, MIRRORED, BOTH) - mirrored)}, the reverse {len(own(left, REVERSED))} of {len(names)}; joined to "
@@ -162,7 +163,7 @@ class Clock:
 KNOTS, COPIES, CALLS, THINGS = 12, 20, 3, 200
 
 # A block of a list: what it is called, its text, and what it is.
-Named = collections.namedtuple("Named", "label text block")
+NamedBlock = collections.namedtuple("NamedBlock", "label text block")
 
 
 def named_blocks(listed):
@@ -176,14 +177,14 @@ def named_blocks(listed):
             labels.append(name if rest.startswith("table") and name else rest)
         elif word in ("weight", "shadow"):
             labels[-1] += " with a cocycle"
-    return list(map(Named, labels, [block.text for block in plan_blocks(listed)[1]], blocks_of(listed)))
+    return list(map(NamedBlock, labels, [block.text for block in plan_blocks(listed)[1]], blocks_of(listed)))
 
 
-def rows_of_blocks(known, names, some, each, book):
+def rows_of_blocks(known, names, some, each, store):
     """The rows of knots and of their mirror images by some blocks: those of the table's list as they are beside it, and others counted."""
     standing = {block.text: place for place, block in enumerate(plan_blocks(known.listed)[1])}
     others = "".join(one.text for one in some if one.text not in standing)
-    further = rows_by(known, names, others, each, book) if others else dict.fromkeys(names, ((), ()))
+    further = rows_by(known, names, others, each, store) if others else dict.fromkeys(names, ((), ()))
 
     def row(there, counted):
         entries = iter(counted)
@@ -242,11 +243,11 @@ def say_order_of(known, names, some, untold):
         print(f"{some[best].label}: {costs[best]:.3f} ms; left are {left[0]} pairs, {left[1]} mirror images, {left[2]} reverses", flush=True)
 
 
-def say_order(known, listed, each, book):
+def say_order(known, listed, each, store):
     """Names the blocks of a list in their order, those of at most MAX_ORDER colours first."""
     every, names = named_blocks(listed), list(known.knots)
     small, larger = ([one for one in every if (one.block.order > MAX_ORDER) == is_larger] for is_larger in (False, True))
-    rows = Rows([one.block for one in small], rows_of_blocks(known, names, small, each, book))
+    rows = KnotRows([one.block for one in small], rows_of_blocks(known, names, small, each, store))
     marks = marks_of(rows)
     say_order_of(known, names, small, lambda chosen: untold_by(marks, chosen))
     every = [one for one in left_by(rows) if not is_joined(known, one) and not is_open(known, one)]
@@ -254,8 +255,8 @@ def say_order(known, listed, each, book):
     due = [name for name in names if name in {name for one in left for name in one[:2]}]
     if not larger or not due:
         return
-    counted = rows_of_blocks(known, due, larger, each, book)
-    by_block = [Rows([one.block], {name: tuple(row[place:place + 1] for row in counted[name]) for name in due}) for place, one in enumerate(larger)]
+    counted = rows_of_blocks(known, due, larger, each, store)
+    by_block = [KnotRows([one.block], {name: tuple(row[place:place + 1] for row in counted[name]) for name in due}) for place, one in enumerate(larger)]
     stays = [[by.may_be(one) for one in left] for by in by_block]
 
     def untold(chosen):
@@ -271,42 +272,39 @@ def known_rows(known, names):
     return {name: (known.row(name), known.row(name, MIRRORED)) for name in names}
 
 
-def each_by(processes):
-    """What maps a function over items, so many at once."""
-    def each(items, make):
-        with ThreadPoolExecutor(processes) as pool:
-            yield from pool.map(make, items)
-
-    return each
-
-
 def main():
     words = argparse.ArgumentParser(description=__doc__, formatter_class=argparse.RawDescriptionHelpFormatter)
     words.add_argument("--table", default=default_table())
     words.add_argument("--list", action="append", default=[], dest="lists", metavar="FILE")
     words.add_argument("--book", metavar="FILE")
-    words.add_argument("--only", choices=sorted(KINDS))
+    words.add_argument("--only", choices=sorted(LEFT_KINDS))
     words.add_argument("--each", action="store_true")
     words.add_argument("--order", metavar="FILE")
     words.add_argument("--processes", type=int, default=os.cpu_count() or 1)
     asked = words.parse_args()
     use(knot=os.environ.get("KNOT") or PROGRAM)
-    clock, each = Clock(), each_by(asked.processes)
-    known, book = KnotTable(asked.table), Book(asked.book) if asked.book else None
+    with threads(asked.processes, end_calls) as pool:
+        report_all(asked, pool.in_order)
+
+
+def report_all(asked, each):
+    """Does what the words ask for; `each` maps a function over items, several at once."""
+    clock = Clock()
+    known, store = KnotTable(asked.table), Store(asked.book, BOOK) if asked.book else None
     if asked.order:
-        say_order(known, text_in(asked.order), each, book)
+        say_order(known, text_in(asked.order), each, store)
         print(clock)
         return
     names = list(known.knots)
-    every = left_by(Rows(known.blocks, known_rows(known, names)))
+    every = left_by(KnotRows(known.blocks, known_rows(known, names)))
     joined = [one for one in every if is_joined(known, one)]
     left = [one for one in every if not is_joined(known, one)]
-    report("the rows of the table", names, left, joined, clock)
+    report_left("the rows of the table", names, left, joined, clock)
     left = [one for one in left if asked.only in (None, kind_of(one))]
     for path in asked.lists:
         clock = Clock()
-        left = left_by_list(known, left, path, each, book)
-        report(path, names, left, joined, clock)
+        left = left_by_list(known, left, path, each, store)
+        report_left(path, names, left, joined, clock)
     if asked.each:
         for one in left:
             print(f"{one.one}: {one.other}{one.turn.words}")

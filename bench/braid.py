@@ -8,13 +8,15 @@ word, with a quandle of order 1 and with the tetrahedral one. Instructions are t
 import os
 import tempfile
 
-from grids import UNKNOT, below, grid_text
-from measure import built, instructions, lines_of, put, wants_no_words
+from grids import below
+from knot_workbench.diagrams import grid_text
+from knot_workbench.tables.knots import UNKNOT
+from measure import built, instructions, output_lines, wants_no_words, write_input
 
 
 def letters(path, grid):
-    put(path, grid_text(grid) + "quandle trivial 1\n")
-    return len(lines_of("braid", path)[0].split()) - 2
+    write_input(path, grid_text(grid) + "quandle trivial 1\n")
+    return len(output_lines("braid", path)[0].split()) - 2
 
 
 def main():
@@ -27,10 +29,10 @@ def main():
             grid = max((below(size, rows) for rows in range(1, size)), key=lambda g: letters(path, g))
             count = letters(path, grid)
             for quandle in ("trivial 1", "tetrahedral"):
-                put(path, grid_text(UNKNOT) + f"quandle {quandle}\n")
+                write_input(path, grid_text(UNKNOT) + f"quandle {quandle}\n")
                 start = instructions("braid", path)
-                put(path, grid_text(grid) + f"quandle {quandle}\n")
-                lines = lines_of("braid", path)
+                write_input(path, grid_text(grid) + f"quandle {quandle}\n")
+                lines = output_lines("braid", path)
                 took = instructions("braid", path) - start
                 strands, found = int(lines[0].split()[1]), lines[2]
                 print(f"{size:7} {strands:7} {count:7} {quandle:12} {found.split()[1]:>5} {took:12,} {took / count:8,.0f}")

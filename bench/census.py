@@ -5,7 +5,7 @@
     python3 bench/census.py --diagrams 100    the first so many of them
     python3 bench/census.py --folder FOLDER   keeps the table and the census there; called again, it goes on
     python3 bench/census.py --seed 2          other disguises
-    python3 bench/census.py -- --with parallel    words after -- go to census.py
+    python3 bench/census.py -- --processes 2    words after -- go to census.py
 
 The table has the 35 prime knots to 8 crossings by braid words and their mirror images, in seven disguises each, and ten of the unknot. A
 disguise is a braid word some relations and Markov moves away, or the end of a walk of 3,000 moves in 12 to 20 columns. The files are shuffled
@@ -22,15 +22,15 @@ import sys
 import tempfile
 import time
 
-from grids import UNKNOT
-from knot_workbench.diagrams import grid_of, grid_text, mirror_braid
 from measure import PROGRAM, built
-from seek import SEEK, knots, text_of, varied, walked
+# seek knows where the module is.
+from seek import RELATIONS, SEEK, knots, varied, walked
+from knot_workbench.diagrams import diagram_text, grid_of, grid_text, mirror_braid
+from knot_workbench.tables.knots import UNKNOT
 
 TOP = os.path.dirname(os.path.dirname(os.path.abspath(__file__)))
 COUNT, DISGUISES, UNKNOTS = 500, 7, 10
-RELATIONS = 40
-SIZES = range(12, 21)
+DISGUISE_SIZES = range(12, 21)
 
 # The knots that are the same as their mirror images, without being run through backwards.
 AMPHICHIRAL = ("4_1", "6_3", "8_3", "8_9", "8_12", "8_18")
@@ -40,11 +40,11 @@ def disguised(diagram, place, dice):
     """The text of a disguise: braid words and ends of walks by turns."""
     if place % 2 or diagram is UNKNOT:
         start = grid_of(diagram)
-        return grid_text(walked(start, max(dice.choice(SIZES), len(start.xs)), dice))
-    return text_of(varied(diagram, dice, RELATIONS))
+        return grid_text(walked(start, max(dice.choice(DISGUISE_SIZES), len(start.xs)), dice))
+    return diagram_text(varied(diagram, dice, RELATIONS))
 
 
-def table(seed):
+def shuffled_disguises(seed):
     """Pairs of what a diagram is and its text, in a shuffled order."""
     dice = random.Random(f"census {seed}")
     kinds = [("0_1", UNKNOT)] + [("0_1", UNKNOT)] * (UNKNOTS - 1)
@@ -55,14 +55,14 @@ def table(seed):
     return ((kind, disguised(diagram, place, dice)) for place, (kind, diagram) in enumerate(kinds))
 
 
-def write_table(folder, seed, count):
+def write_disguises(folder, seed, count):
     """Writes the table, and what is hidden beside it; what is there already stays."""
     hidden = os.path.join(folder, "hidden.csv")
     diagrams = os.path.join(folder, "diagrams")
     os.makedirs(diagrams, exist_ok=True)
     if not os.path.exists(hidden):
         rows = []
-        for place, (kind, text) in enumerate(itertools.islice(table(seed), count), 1):
+        for place, (kind, text) in enumerate(itertools.islice(shuffled_disguises(seed), count), 1):
             name = f"d{place:03}"
             with open(os.path.join(diagrams, name + ".txt"), "w", encoding="utf-8") as out:
                 out.write(text)
@@ -73,7 +73,7 @@ def write_table(folder, seed, count):
         return {row["name"]: row["is"] for row in csv.DictReader(source)}
 
 
-def rows_of(folder, name):
+def census_rows(folder, name):
     """The rows of a table of the census."""
     with open(os.path.join(folder, "census", name), encoding="utf-8", newline="") as source:
         return list(csv.DictReader(source))
@@ -82,13 +82,13 @@ def rows_of(folder, name):
 def judged(folder, hidden):
     """Says what is wrong, and what is left undecided."""
     classes = {}
-    for row in rows_of(folder, "classes.csv"):
+    for row in census_rows(folder, "classes.csv"):
         classes.setdefault(row["class"], []).append(row["name"])
     wrong = [members for members in classes.values() if len({hidden[name] for name in members}) > 1]
-    split = [row for row in rows_of(folder, "apart.csv") if hidden[row["first"]] == hidden[row["second"]]]
+    split = [row for row in census_rows(folder, "apart.csv") if hidden[row["first"]] == hidden[row["second"]]]
     print(f"{len(hidden)} diagrams of {len(set(hidden.values()))} links: {len(classes)} classes, {len(wrong)} of them wrong, "
           f"{len(split)} wrongly distinguished")
-    for row in rows_of(folder, "undecided.csv"):
+    for row in census_rows(folder, "undecided.csv"):
         first, second = (f"{row[key]} ({hidden[row[key]]})" for key in ("first", "second"))
         print(f"undecided: {first} and {second}: {row['tried']}")
     return bool(wrong or split)
@@ -105,7 +105,7 @@ def main():
     built(SEEK, "./seek --version")
     with tempfile.TemporaryDirectory() as scratch:
         folder = asked.folder or scratch
-        hidden = write_table(folder, asked.seed, asked.diagrams)
+        hidden = write_disguises(folder, asked.seed, asked.diagrams)
         began = time.perf_counter()
         call = [sys.executable, os.path.join(TOP, "tools", "census.py"), "sort", *asked.words, os.path.join(folder, "diagrams"), os.path.join(folder, "census")]
         status = subprocess.run(call, env={**os.environ, "KNOT": PROGRAM, "SEEK": SEEK}, check=False).returncode

@@ -8,10 +8,11 @@ import os
 import sys
 import tempfile
 
-from grids import grid_text, loop_of, resizing, torus, trades
+from grids import loop_of, resizing, torus, trades
+from knot_workbench.diagrams import grid_text
 from measure import PROGRAM, best, built, instructions, wants_instructions
 
-LIMIT = 33_554_432
+INPUT_LIMIT = 33_554_432
 
 
 def cycles(size):
@@ -30,7 +31,7 @@ def text(grid, lines, count):
     """The input with about so many moves, whole rounds of the list, and at most the limit's bytes."""
     head = grid_text(grid) * 2
     round_bytes = sum(len(line) + 1 for line in lines)
-    rounds = max(1, min(count // len(lines), (LIMIT - len(head) - 20) // round_bytes))
+    rounds = max(1, min(count // len(lines), (INPUT_LIMIT - len(head) - 20) // round_bytes))
     body = "".join(line + "\n" for line in lines) * rounds
     return (head + f"equal {rounds * len(lines)}\n" + body).encode(), rounds * len(lines)
 

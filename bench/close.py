@@ -7,15 +7,15 @@
 import os
 import tempfile
 
-from colour import listed
-from measure import PROGRAM, best, built, instructions, put, wants_instructions
+from colour import listed_counts
+from measure import PROGRAM, best, built, instructions, wants_instructions, write_input
 
 # Eight letters on four strands, and the same undone from the last to the first.
-LETTERS = [1, 2, 3, 1, 2, 3, 1, 2, -2, -1, -3, -2, -1, -3, -2, -1]
+UNDONE_LETTERS = [1, 2, 3, 1, 2, 3, 1, 2, -2, -1, -3, -2, -1, -3, -2, -1]
 
 
 def word(letters):
-    return f"braid 4 {' '.join(map(str, LETTERS[:letters]))}".strip() + "\n"
+    return f"braid 4 {' '.join(map(str, UNDONE_LETTERS[:letters]))}".strip() + "\n"
 
 
 def rows():
@@ -35,11 +35,11 @@ def main():
         for name, letters, tuples, text in rows():
             start = None
             if with_instructions:
-                put(path, word(letters) + "quandle trivial 1\n")
+                write_input(path, word(letters) + "quandle trivial 1\n")
                 start = instructions("close", path)
-            put(path, text)
+            write_input(path, text)
             seconds, memory, written = best([PROGRAM, "close"], path)
-            size, count = len(written), listed(written)
+            size, count = len(written), listed_counts(written)
             line = f"{name:38} {tuples:7} {count:7} {size:9} {seconds:8.4f} {size / 1e6 / seconds:6.0f} {memory / 1e6:6.1f}"
             if with_instructions:
                 line += f" {(instructions('close', path) - start) / tuples:20.0f}"

@@ -9,8 +9,8 @@ import os
 import sys
 import tempfile
 
-from colour import turned
-from grids import Grid, grid_text
+from colour import turned_unknots
+from knot_workbench.diagrams import Grid, grid_text
 from measure import PROGRAM, best, built, instructions, wants_instructions
 
 
@@ -20,7 +20,7 @@ def stairs(unknots, width):
     return Grid(tuple(columns), tuple(c + 1 if (c + 1) % width else c + 1 - width for c in columns))
 
 
-def lists_of(unknots, width, order):
+def colour_lists(unknots, width, order):
     """The lines of all colourings of these unknots by a trivial quandle: each has one colour for all its columns."""
     return [" ".join(f"{c}" for c in colours for _ in range(width)) for colours in itertools.product(range(order), repeat=unknots)]
 
@@ -28,8 +28,8 @@ def lists_of(unknots, width, order):
 def certificate(first, second, order, turn=False):
     """Unknots, as (how many, columns of each), against others, with their complete lists, and how many lines these have."""
     grids = [stairs(*unknots) for unknots in (first, second)]
-    head = "".join(grid_text(turned(grid) if turn else grid) for grid in grids) + f"different trivial {order}\n"
-    lists = [lists_of(*unknots, order) for unknots in (first, second)]
+    head = "".join(grid_text(turned_unknots(grid) if turn else grid) for grid in grids) + f"different trivial {order}\n"
+    lists = [colour_lists(*unknots, order) for unknots in (first, second)]
     body = "".join(f"list {len(lines)}\n" + "".join(line + "\n" for line in lines) for lines in lists)
     return (head + body).encode(), sum(map(len, lists))
 

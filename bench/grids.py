@@ -4,10 +4,9 @@ import random
 import sys
 
 sys.path.insert(0, os.path.join(os.path.dirname(os.path.abspath(__file__)), "..", "python"))
-from knot_workbench.diagrams import CORNERS, Grid, crossings, grid_text
+from knot_workbench.diagrams import CORNERS, Grid
 from knot_workbench.moves import Illegal, made
 
-UNKNOT = Grid((0, 1), (1, 0))
 RIGHT_TREFOIL = Grid((4, 3, 2, 1, 0), (2, 1, 0, 4, 3))
 
 
@@ -33,7 +32,7 @@ def line(move):
     return " ".join(map(str, move))
 
 
-def after(grid, move):
+def legal_after(grid, move):
     """The grid that a move leads to, or None where it is not legal."""
     try:
         return made(grid, move)
@@ -53,7 +52,7 @@ def trades(grid, turns, seed):
             there, back = ("shift", which, by), ("shift", which, size - by)
         else:
             there = back = ("exchange", which, dice.randrange(size - 1))
-        further = after(grid, there)
+        further = legal_after(grid, there)
         if further is not None:
             steps.append((line(there), line(back)))
             grid = further

@@ -33,19 +33,20 @@ import time
 
 # seek knows where the modules of tools/ are.
 from measure import PROGRAM, processor_seconds
-from seek import SEEK, TOP, varied, walked
+from seek import RELATIONS, SEEK, TOP, varied, walked
 
 sys.path.insert(0, os.path.join(TOP, "tools"))
-from lib.smaller import reduced
-from lib.whole_files import write_whole
+from lib.calls.whole_files import write_whole
+from lib.codes.smaller import reduced
 from knot_workbench import Certificate, braid_word, identify
 from knot_workbench.code_grids import Grids
-from knot_workbench.diagrams import Braid, Lines, braid_fault, grid_of, grid_text, read_diagram
-from knot_workbench.knot_tables import MIRRORED, TURNS, KnotTable, default_table, name_of, records, text_in
-from knot_workbench.table_entries import Conventions, diagram_of, nested
+from knot_workbench.codes.brackets import nested
+from knot_workbench.diagrams import Braid, grid_of, grid_text
+from knot_workbench.tables.entries import Conventions, diagram_of
+from knot_workbench.tables.knots import MIRRORED, TURNS, KnotTable, default_table, name_of, records, text_in
+from knot_workbench.texts import Lines, braid_fault, read_diagram
 
 COLUMNS_MORE = range(2, 9)
-RELATIONS = 40
 OPEN_SHARE = 0.02
 IDENTIFY = (sys.executable, os.path.join(TOP, "tools", "identify.py"))
 # How long one diagram of most crossings may take in the median, and a hundred rows of such.
@@ -54,7 +55,7 @@ MEDIAN, HUNDRED = 1, 60
 
 # Disguises
 
-def arcs_text(grid):
+def arcs_entry(grid):
     """A grid as a table has it."""
     return "{" + ",".join(f"{{{x + 1},{o + 1}}}" for x, o in zip(grid.xs, grid.os)) + "}"
 
@@ -68,7 +69,7 @@ def word_text(grid, dice):
     return f"{{{further.strands},{{{','.join(map(str, further.letters))}}}}}"
 
 
-def code_text(rows, turn, dice):
+def turned_code(rows, turn, dice):
     """A code after a turn, with other numbers that ascend along the strand, and its crossings in another order."""
     count = 2 * len(rows)
     if turn.is_mirrored:
@@ -81,13 +82,13 @@ def code_text(rows, turn, dice):
     return str(rows).replace(" ", "")
 
 
-def disguised(place, knot, rows, turn, dice):
+def disguised_entry(place, knot, rows, turn, dice):
     """The entry of a table for a knot after a turn."""
     grid = turn.of(knot.grid)
     text = word_text(grid, dice) if place % 3 == 1 else None
     if place % 3 == 2:
-        text = code_text(rows, turn, dice)
-    return text or arcs_text(walked(grid, min(grid.size + dice.choice(COLUMNS_MORE), 46), dice))
+        text = turned_code(rows, turn, dice)
+    return text or arcs_entry(walked(grid, min(grid.size + dice.choice(COLUMNS_MORE), 46), dice))
 
 
 # Tables
@@ -98,7 +99,7 @@ def knots_of(known, most):
     return [(knot, codes[knot.name]) for knot in known.knots.values() if knot.crossings <= most]
 
 
-def write_table(path, rows):
+def write_entries(path, rows):
     """Writes a table of names, hidden names and diagrams, where it isn't there."""
     if not os.path.exists(path):
         text = io.StringIO(newline="")
@@ -114,7 +115,7 @@ def disguised_rows(known, count, most, seed):
     for place in range(count):
         knot, rows = dice.choice(every)
         turn = dice.choice(TURNS)
-        yield f"d{place + 1:03}", name_of(((knot.name, turn),)), disguised(place, knot, rows, turn, dice)
+        yield f"d{place + 1:03}", name_of(((knot.name, turn),)), disguised_entry(place, knot, rows, turn, dice)
 
 
 def published_rows(known, count, errors, most, seed):
@@ -130,7 +131,7 @@ def published_rows(known, count, errors, most, seed):
                 turn = MIRRORED
             else:
                 said = dice.choice([other.name for other, _ in every if other.crossings == knot.crossings and other != knot] or ["3_1"])
-        found.append((said, disguised(place, knot, rows, turn, dice), place < errors))
+        found.append((said, disguised_entry(place, knot, rows, turn, dice), place < errors))
     dice.shuffle(found)
     return [(f"p{place:03}", said, entry, is_error) for place, (said, entry, is_error) in enumerate(found, 1)]
 
@@ -147,7 +148,7 @@ def timed_grids(known, count, most, seed):
 
 # Trials
 
-class Clock:
+class CallClock:
     """Seconds since it was made: by the clock, and of the processor, with those of the programs that were called and have ended."""
 
     def __init__(self):
@@ -161,12 +162,12 @@ class Clock:
         return f"{self.seconds:.0f} s ({processor_seconds() - self.spent:.0f})"
 
 
-def called(known, folder, name, given, words):
+def run_identify(known, folder, name, given, words):
     """Runs identify.py on a table of the folder with these rows: the rows of its answers, how many of their certificates hold, and how long the
     run took."""
     out, certificates = (os.path.join(folder, f"{name}{ending}") for ending in ("-answers.csv", "-certificates"))
     call = [*IDENTIFY, os.path.join(folder, f"{name}.csv"), "--diagram", "diagram", "--out", out, "--certificates", certificates, *words]
-    clock = Clock()
+    clock = CallClock()
     status = subprocess.run(call, check=False).returncode
     took, seconds = str(clock), clock.seconds
     if status not in (0, 1):
@@ -197,8 +198,8 @@ def is_right(known, hidden, answer):
 
 def try_disguised(known, folder, asked):
     """Names disguised diagrams: whether that went as it should."""
-    hidden = write_table(os.path.join(folder, "disguised.csv"), disguised_rows(known, asked.disguised, asked.most, asked.seed))
-    rows, accepted, took, _ = called(known, folder, "disguised", hidden, asked.words)
+    hidden = write_entries(os.path.join(folder, "disguised.csv"), disguised_rows(known, asked.disguised, asked.most, asked.seed))
+    rows, accepted, took, _ = run_identify(known, folder, "disguised", hidden, asked.words)
     counts = collections.Counter()
     for row, truth in zip(rows, hidden):
         kind = row["answer"] if row["answer"] in ("open", "refused", "failed") else "right" if is_right(known, truth["is"], row["answer"]) else "wrong"
@@ -213,8 +214,8 @@ def try_disguised(known, folder, asked):
 def try_published(known, folder, asked):
     """Looks for planted errors: whether exactly these were found."""
     made = published_rows(known, asked.published, asked.errors, asked.most, asked.seed)
-    given = write_table(os.path.join(folder, "published.csv"), [row[:3] for row in made])
-    rows, accepted, took, _ = called(known, folder, "published", given, ["--expect", "is", *asked.words])
+    given = write_entries(os.path.join(folder, "published.csv"), [row[:3] for row in made])
+    rows, accepted, took, _ = run_identify(known, folder, "published", given, ["--expect", "is", *asked.words])
     planted, back = {row[0] for row in made if row[3]}, {row["name"] for row in rows if row["ruling"] != "right"}
     for row in rows:
         if row["ruling"] != "right" or row["name"] in planted:
@@ -227,8 +228,8 @@ def try_published(known, folder, asked):
 def try_rows(known, folder, asked):
     """Times a table of diagrams of the most crossings in one call: whether a hundred of them would take at most a minute."""
     grids = timed_grids(known, asked.rows, asked.most, asked.seed)
-    given = write_table(os.path.join(folder, "rows.csv"), [(f"r{place:03}", "", arcs_text(grid)) for place, grid in enumerate(grids, 1)])
-    rows, accepted, took, seconds = called(known, folder, "rows", given, asked.words)
+    given = write_entries(os.path.join(folder, "rows.csv"), [(f"r{place:03}", "", arcs_entry(grid)) for place, grid in enumerate(grids, 1)])
+    rows, accepted, took, seconds = run_identify(known, folder, "rows", given, asked.words)
     named = sum(row["answer"] not in ("open", "refused", "failed") for row in rows)
     print(f"{len(rows)} diagrams of most crossings in one call: {named} named; {accepted} certificates accepted; {took}", flush=True)
     return accepted == named and seconds <= HUNDRED * len(rows) / 100
@@ -248,7 +249,7 @@ def try_times(known, folder, asked):
     for said, call in (("script", by_script), ("module", lambda grid: identify(grid, known))):
         seconds, spent = [], []
         for grid in timed_grids(known, asked.timed, asked.most, asked.seed):
-            clock = Clock()
+            clock = CallClock()
             call(grid)
             seconds.append(clock.seconds)
             spent.append(processor_seconds() - clock.spent)

@@ -11,17 +11,17 @@ import glob
 import os
 import tempfile
 
-from measure import PROGRAM, best, built, put, wants_no_words
+from measure import PROGRAM, best, built, wants_no_words, write_input
 
 TOP = os.path.join(os.path.dirname(os.path.abspath(__file__)), "..")
-SMALL = 32
+SMALL_ORDER = 32
 # 8_17, and seeds of its closure.
 DIAGRAM = "braid 3 1 1 -2 1 -2 1 -2 -2\n"
 SEEDS = "seeds 0 1 2\n"
 SEED_COUNT = 3
 
 
-def lines_in(path):
+def lines_without_remarks(path):
     """The lines of a file without remarks."""
     with open(path, encoding="utf-8") as file:
         return [line for line in file.read().splitlines() if not line.startswith("#")]
@@ -35,8 +35,8 @@ def order_of(lines):
 def examples():
     """The examples with a larger table: a name, the order, and the text."""
     for path in sorted(glob.glob(os.path.join(TOP, "examples", "check", "*.txt"))):
-        lines = lines_in(path)
-        if order_of(lines) > SMALL:
+        lines = lines_without_remarks(path)
+        if order_of(lines) > SMALL_ORDER:
             yield os.path.basename(path)[:-4], order_of(lines), "\n".join(lines) + "\n"
 
 
@@ -47,10 +47,10 @@ def with_more(rows, more):
     return longer + [" ".join([str(x)] * (order + more)) for x in range(order, order + more)]
 
 
-def tables():
+def larger_tables():
     """A name, whether one colour of the first seed is tried, and the lines of a table, with those of a cocycle."""
     for path in sorted(glob.glob(os.path.join(TOP, "quandles", "larger", "*.txt"))):
-        name, lines = os.path.basename(path)[:-4], lines_in(path)
+        name, lines = os.path.basename(path)[:-4], lines_without_remarks(path)
         yield name, not any(line.startswith("weight") for line in lines), lines[1:]
         if name == "PGammaL2_8_84_a":
             yield "not connected", False, with_more(lines[1:], 36)
@@ -71,7 +71,7 @@ def main():
         path = os.path.join(folder, "input")
 
         def row(name, order, candidates, text, wanted):
-            put(path, text)
+            write_input(path, text)
             seconds, memory, written = best([PROGRAM, "check"], path)
             if written != wanted:
                 raise SystemExit(f"{name}: {written!r}")
@@ -80,7 +80,7 @@ def main():
         print(f"{'evidence':28} {'order':>6} {'candidates':>10} {'seconds':>8} {'MB':>6}")
         for name, order, text in examples():
             row(name, order, "", text, "accepted\n")
-        for name, alike, lines in tables():
+        for name, alike, lines in larger_tables():
             order = len(lines[0].split())
             row(name, order, order ** (SEED_COUNT - alike), wrong_evidence(lines), "rejected number 1 0\n")
 

@@ -8,6 +8,10 @@ import tempfile
 
 CRATES = os.path.join(os.path.dirname(os.path.abspath(__file__)), "..", "crates")
 PROGRAM = os.path.join(CRATES, "knot", "out", "knot")
+# The line before a verdict.
+HEAD = "certificate 2\n"
+# A quandle that distinguishes nothing: with it alone `decide` is only a search.
+NO_QUANDLE = "quandle trivial 1\n"
 
 # A run as a small process of its own sees it: a child's peak memory counts what its parent held when it was started.
 RUNNER = """
@@ -33,13 +37,13 @@ def processor_seconds():
     return sum(used.ru_utime + used.ru_stime for used in map(resource.getrusage, (resource.RUSAGE_SELF, resource.RUSAGE_CHILDREN)))
 
 
-def put(path, text):
+def write_input(path, text):
     """Writes the input of a run."""
     with open(path, "w", encoding="utf-8") as out:
         out.write(text)
 
 
-def lines_of(request, path):
+def output_lines(request, path):
     """The lines that one run of the request on the file writes."""
     with open(path, "rb") as source:
         return subprocess.run([PROGRAM, request], stdin=source, stdout=subprocess.PIPE, check=True).stdout.decode().splitlines()

@@ -24,11 +24,10 @@ from census import table
 TOP = os.path.dirname(os.path.dirname(os.path.abspath(__file__)))
 sys.path.insert(0, os.path.join(TOP, "tools"))
 
-from lib.pieces_call import main as pieces  # noqa: E402
-from lib.pieces_call import processors  # noqa: E402
+from lib.pieces.call import main as pieces, processors  # noqa: E402
 
-LIST = os.path.join(TOP, "quandles", "list-short.txt")
-DEFAULT = ["--keep", "numbers,wide", "--job", "numbers", "+" + LIST]
+SHORT_LIST = os.path.join(TOP, "quandles", "list-short.txt")
+DEFAULT = ["--keep", "numbers,wide", "--job", "numbers", "+" + SHORT_LIST]
 
 
 def write_table(path, lines, disguises):
@@ -57,7 +56,7 @@ def call(*words, status=0):
     return out.buffer.getvalue(), *(end - start for start, end in zip(before, after))
 
 
-def say(what, seconds, own, programs):
+def say_seconds(what, seconds, own, programs):
     print(f"{what}: {seconds:.1f} s; processor seconds: {own:.1f} of the script, {programs:.1f} of programs", flush=True)
 
 
@@ -67,17 +66,17 @@ def bench(folder, asked):
     if not os.path.exists(source):
         write_table(source, asked.lines, asked.disguises)
     _, *cost = call("cut", source, run, "--each", str(asked.each), "--most", "1000000", *(asked.words or DEFAULT))
-    say(f"cut {asked.lines} lines, {os.path.getsize(source) / 1e6:.0f} MB", *cost)
+    say_seconds(f"cut {asked.lines} lines, {os.path.getsize(source) / 1e6:.0f} MB", *cost)
     _, *cost = call("run", run, last, "--processes", str(asked.processes))
     answered = min(asked.pieces * asked.each, asked.lines)
-    say(f"run {answered} lines by {asked.processes} processes", *cost)
+    say_seconds(f"run {answered} lines by {asked.processes} processes", *cost)
     print(f"a line: {1000 * cost[1] / answered:.2f} ms of the script, {1000 * cost[2] / answered:.2f} ms of the program")
     _, *cost = call("left", run, status=1 if answered < asked.lines else 0)
-    say("left", *cost)
+    say_seconds("left", *cost)
     text, *cost = call("join", run, last)
-    say(f"join {text.count(bytes([10]))} lines, {len(text) / 1e6:.1f} MB", *cost)
+    say_seconds(f"join {text.count(bytes([10]))} lines, {len(text) / 1e6:.1f} MB", *cost)
     text, *cost = call("check", run, "--try", "200", "--processes", str(asked.processes))
-    say(f"check: {text.decode().strip()}", *cost)
+    say_seconds(f"check: {text.decode().strip()}", *cost)
 
 
 def main():

@@ -12,24 +12,26 @@ import random
 import subprocess
 import time
 
-from grids import RIGHT_TREFOIL, UNKNOT, after, grid_text, picked
+from grids import RIGHT_TREFOIL, legal_after, picked
+from knot_workbench.diagrams import grid_text
+from knot_workbench.tables.knots import UNKNOT
 from measure import PROGRAM, built
 
 WALKS = 12
 TRIES = 400
-SIZES = (6, 7, 8, 9, 10)
+REACHED_SIZES = (6, 7, 8, 9, 10)
 SETTINGS = ((20_000, 1), (500_000, 0), (500_000, 1))
 # Of twenty moves five are to be shifts, seven exchanges, and up to four stabilisations.
 SHARES = (0.25, 0.6, 0.8)
 
 
-def walked(dice, start, size):
+def walk_end(dice, start, size):
     """Where a walk ends that has so many columns at its end and never more."""
     here = start
     for _ in range(TRIES):
-        here = after(here, picked(dice, len(here.xs), size, SHARES)) or here
+        here = legal_after(here, picked(dice, len(here.xs), size, SHARES)) or here
     while len(here.xs) < size:
-        further = after(here, picked(dice, len(here.xs), size, SHARES))
+        further = legal_after(here, picked(dice, len(here.xs), size, SHARES))
         if further and len(further.xs) >= len(here.xs):
             here = further
     return here
@@ -48,10 +50,10 @@ def main():
     built(program)
     dice = random.Random(1)
     for name, start in (("unknot", UNKNOT), ("right trefoil", RIGHT_TREFOIL)):
-        for size in SIZES:
+        for size in REACHED_SIZES:
             if size <= len(start.xs):
                 continue
-            inputs = [grid_text(start) + grid_text(walked(dice, start, size)) + "quandle trivial 1\n" for _ in range(WALKS)]
+            inputs = [grid_text(start) + grid_text(walk_end(dice, start, size)) + "quandle trivial 1\n" for _ in range(WALKS)]
             for budget, spare in SETTINGS:
                 begun = time.perf_counter()
                 joined = sum(joins(program, text, budget, spare) for text in inputs)

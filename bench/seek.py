@@ -36,20 +36,23 @@ import tempfile
 import time
 from typing import NamedTuple
 
-# grids knows where the modules of tools/ are.
-from grids import UNKNOT
-from knot_workbench.diagrams import CORNERS, MAX_QUANDLES, MAX_SIZE, Braid, Grid, grid_of, grid_text
-from knot_workbench.moves import Illegal, made
-from measure import CRATES, PROGRAM, built, counted
+# grids knows where the module is.
+from grids import legal_after, picked
+from knot_workbench.diagrams import MAX_SIZE, Braid, diagram_text, grid_of
+from knot_workbench.quandles import MAX_QUANDLES
+from knot_workbench.tables.knots import UNKNOT
+from measure import CRATES, HEAD, PROGRAM, built, counted
 
 TOP = os.path.join(CRATES, "..")
 
 SEEK = os.path.join(CRATES, "seek", "out", "seek")
 LIST = os.path.join(TOP, "quandles", "weights", "list.txt")
 BOUNDS = os.path.join(CRATES, "seek_core", "src", "bounds.rt")
-# The line before a verdict.
-HEAD = "certificate 2\n"
 MOVES = 3_000
+# Of twenty moves four are to be shifts, ten exchanges, and up to three stabilisations.
+WALK_SHARES = (0.2, 0.7, 0.85)
+# By how many relations and Markov moves a word is disguised.
+RELATIONS = 40
 SIZES = (12, 14, 16, 18, 20, 22, 24)
 LINKS = {
     "hopf": Braid(2, (1, 1)),
@@ -62,7 +65,7 @@ LINKS = {
     "chain of four": Braid(4, (1, 1, 2, 2, 3, 3)),
     "trefoil and a ring": Braid(3, (1, 1, 1)),
 }
-MIRRORED = {
+MIRRORED_KNOTS = {
     "trefoil": Braid(2, (1, 1, 1)),
     "torus 3 4": Braid(3, (1, 2) * 4),
     "three trefoils": Braid(4, (1, 1, 1, 2, 2, 2, 3, 3, 3)),
@@ -134,7 +137,7 @@ def knots():
                 yield row["name"], braid
 
 
-def sum_of(one, two):
+def sum_word(one, two):
     """A word of the sum of two closed braids."""
     strands = one.strands + two.strands - 1
     shift = one.strands - 1
@@ -142,38 +145,18 @@ def sum_of(one, two):
     return Braid(strands, one.letters + moved)
 
 
-def text_of(diagram):
-    if isinstance(diagram, Braid):
-        return f"braid {diagram.strands} {' '.join(map(str, diagram.letters))}\n"
-    return grid_text(diagram)
-
-
 # Walks
-
-def a_move(size, most, dice):
-    """A move that is picked at random; it may not be legal."""
-    kind = dice.random()
-    if kind < 0.2:
-        return ("shift", dice.choice(("columns", "rows")), dice.randrange(1, size))
-    if kind < 0.7:
-        return ("exchange", dice.choice(("columns", "rows")), dice.randrange(size - 1))
-    if kind < 0.85 and size < most:
-        return ("stabilise", dice.randrange(size), dice.choice("xo"), dice.choice(CORNERS))
-    return ("destabilise", dice.randrange(size - 1), dice.randrange(size - 1))
-
 
 def walked(start, size, dice):
     """Where a walk ends that has so many columns at its end and never more."""
     here, turns = start, 0
     while turns < MOVES or len(here.xs) < size:
-        move = a_move(len(here.xs), size, dice)
+        move = picked(dice, len(here.xs), size, WALK_SHARES)
         if turns >= MOVES and move[0] == "destabilise":
             continue
-        try:
-            here = made(here, move)
-        except Illegal:
-            continue
-        turns += 1
+        further = legal_after(here, move)
+        if further is not None:
+            here, turns = further, turns + 1
     return here
 
 
@@ -197,7 +180,7 @@ def sum_pairs(dice):
     table = list(knots())[:7]
     for at, (one, first) in enumerate(table):
         for two, second in table[at:]:
-            there, back = sum_of(first, second), sum_of(second, first)
+            there, back = sum_word(first, second), sum_word(second, first)
             if columns(there) <= MAX_SIZE and there != back:
                 yield f"{one} and {two}", there, back
             elif columns(there) <= MAX_SIZE:
@@ -231,19 +214,19 @@ class Sought(NamedTuple):
     clock: float
 
 
-def processor_seconds():
+def children_seconds():
     """What all processes took that were started here and have ended."""
     used = resource.getrusage(resource.RUSAGE_CHILDREN)
     return used.ru_utime + used.ru_stime
 
 
-def sought(problem, seed, *words):
+def sought_by(problem, seed, *words):
     with tempfile.NamedTemporaryFile("w", suffix=".txt") as file:
         file.write(problem)
         file.flush()
-        before, start = processor_seconds(), time.perf_counter()
+        before, start = children_seconds(), time.perf_counter()
         done = subprocess.run([SEEK, "--seed", str(seed), *words, file.name], capture_output=True)
-        clock, processor = time.perf_counter() - start, processor_seconds() - before
+        clock, processor = time.perf_counter() - start, children_seconds() - before
         return Sought(done.returncode, done.stdout.decode(), done.stderr.decode(), processor, clock)
 
 
@@ -256,10 +239,10 @@ def short_steps():
 def walks_alone(problem, seed):
     """The processor seconds of the walks alone, or None where they join nothing."""
     bare = problem + "quandle trivial 1\n" * MAX_QUANDLES
-    short = sought(bare, seed, "--no-weights", "--steps", str(short_steps()))
+    short = sought_by(bare, seed, "--no-weights", "--steps", str(short_steps()))
     if short.status == 0:
         return short.processor
-    both = sought(bare, seed, "--no-weights")
+    both = sought_by(bare, seed, "--no-weights")
     return both.processor - short.processor if both.status == 0 else None
 
 
@@ -283,8 +266,8 @@ def run_family(name, asked):
     dice = random.Random(f"pairs of {name}")
     weights = [] if asked.no_weights else ["--weights", LIST]
     for pair, first, second in itertools.islice(FAMILIES[name](dice), asked.first):
-        problem = text_of(first) + text_of(second)
-        one = sought(problem, asked.seed, *weights)
+        problem = diagram_text(first) + diagram_text(second)
+        one = sought_by(problem, asked.seed, *weights)
         seconds.append(one.processor)
         is_list = one.verdict.startswith(HEAD + "equal ")
         if is_list and not is_accepted(problem, one.verdict):
@@ -297,7 +280,7 @@ def run_family(name, asked):
         if alone is not None:
             walks.append((one.processor, alone))
         if asked.workers > 1:
-            clocks.append((one.clock, sought(problem, asked.seed, *weights, "--workers", str(asked.workers)).clock))
+            clocks.append((one.clock, sought_by(problem, asked.seed, *weights, "--workers", str(asked.workers)).clock))
         if asked.each:
             ending = lengths[-1] if is_list else f"status {one.status}: {one.said.strip()}"
             by_walks = "" if alone is None else f"walks alone {alone:8.3f} s  "
@@ -305,7 +288,7 @@ def run_family(name, asked):
     return Family(seconds, lengths, missed, walks, clocks)
 
 
-def show(name, family):
+def show_family(name, family):
     pairs, lengths = len(family.seconds), family.lengths
     lists = f"{statistics.median(lengths):8.0f} {max(lengths):8}" if lengths else " " * 17
     seconds = f"{sum(family.seconds):9.2f} {statistics.median(family.seconds):8.3f} {max(family.seconds):8.3f}"
@@ -323,10 +306,10 @@ def show_workers(clocks, workers):
 
 def show_instructions(seed):
     """The instructions of a step."""
-    for name, braid in MIRRORED.items():
+    for name, braid in MIRRORED_KNOTS.items():
         mirror = Braid(braid.strands, tuple(-letter for letter in braid.letters))
         with tempfile.NamedTemporaryFile("w", suffix=".txt") as file:
-            file.write(text_of(braid) + text_of(mirror))
+            file.write(diagram_text(braid) + diagram_text(mirror))
             file.flush()
             few, many = (counted([SEEK, "--quiet", "--seed", str(seed), "--steps", str(steps), file.name]) for steps in (FEW, MANY))
         print(f"{name:16} {(many - few) / (MANY - FEW):8.0f} instructions a step", flush=True)
@@ -351,9 +334,9 @@ def main():
     total = Family([], [], 0, [], [])
     for name in [asked.family] if asked.family else FAMILIES:
         found = run_family(name, asked)
-        show(name, found)
+        show_family(name, found)
         total = Family(*(before + more for before, more in zip(total, found)))
-    show("all", total)
+    show_family("all", total)
     if asked.workers > 1:
         show_workers(total.clocks, asked.workers)
 

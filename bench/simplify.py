@@ -13,22 +13,24 @@ import random
 import subprocess
 import tempfile
 
-from grids import RIGHT_TREFOIL, UNKNOT, after, grid_text, picked
-from measure import PROGRAM, best, built, put
+from grids import RIGHT_TREFOIL, legal_after, picked
+from knot_workbench.diagrams import grid_text
+from knot_workbench.tables.knots import UNKNOT
+from measure import PROGRAM, best, built, write_input
 
-TURNS = 3_000
+WALK_LENGTH = 3_000
 # Of ten moves three are to be shifts, four exchanges, and up to one and a half stabilisations.
-SHARES = (0.3, 0.7, 0.85)
+MOVE_SHARES = (0.3, 0.7, 0.85)
 
 
-def walked(grid, size, seed):
+def long_walk_end(grid, size, seed):
     """Where a walk of so many moves or more ends that has so many columns at its end and never more."""
     dice, done = random.Random(seed), 0
-    while done < TURNS or len(grid.xs) < size:
-        move = picked(dice, len(grid.xs), size, SHARES)
-        if done >= TURNS and move[0] == "destabilise":
+    while done < WALK_LENGTH or len(grid.xs) < size:
+        move = picked(dice, len(grid.xs), size, MOVE_SHARES)
+        if done >= WALK_LENGTH and move[0] == "destabilise":
             continue
-        further = after(grid, move)
+        further = legal_after(grid, move)
         if further is not None:
             grid, done = further, done + 1
     return grid
@@ -39,7 +41,7 @@ def time_simplify(program, path):
     for name, start in (("unknot", UNKNOT), ("right trefoil", RIGHT_TREFOIL)):
         for size in (10, 14, 18, 22):
             for seed in (1, 2, 3):
-                put(path, grid_text(walked(start, size, seed)))
+                write_input(path, grid_text(long_walk_end(start, size, seed)))
                 seconds, memory, text = best([program, "simplify"], path, 3)
                 lines = text.splitlines()
                 print(f"{name:14} {size:7} {seed:4} {len(lines[0].split()) - 1:3} {lines[2].split()[1]:>6} {lines[-1]:>12} {seconds:8.4f} {memory / 1e6:6.1f}", flush=True)
@@ -51,7 +53,7 @@ def count_joined(program, path):
     for size in (6, 8, 10, 12):
         joined = spent = 0
         for seed in range(15):
-            put(path, grid_text(UNKNOT) + grid_text(walked(UNKNOT, size, seed)) + "quandle trivial 1\n")
+            write_input(path, grid_text(UNKNOT) + grid_text(long_walk_end(UNKNOT, size, seed)) + "quandle trivial 1\n")
             seconds, _, text = best([program, "decide"], path, 1)
             joined += text.startswith("certificate 2\nequal")
             spent += seconds
@@ -64,12 +66,12 @@ def main():
     parser.add_argument("--print", nargs=2, type=int, metavar=("COLUMNS", "SEED"))
     words = parser.parse_args()
     if words.print:
-        print(grid_text(walked(RIGHT_TREFOIL, *words.print)), end="")
+        print(grid_text(long_walk_end(RIGHT_TREFOIL, *words.print)), end="")
         return
     built(words.program)
     with tempfile.TemporaryDirectory() as folder:
         path = os.path.join(folder, "input")
-        put(path, grid_text(UNKNOT))
+        write_input(path, grid_text(UNKNOT))
         if subprocess.run([words.program, "simplify"], stdin=open(path, "rb"), stdout=subprocess.DEVNULL).returncode == 0:
             time_simplify(words.program, path)
         count_joined(words.program, path)

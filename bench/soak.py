@@ -21,19 +21,16 @@ import random
 import subprocess
 import sys
 
-from grids import Grid, after, grid_text
-from measure import PROGRAM, built
+from grids import legal_after
+from knot_workbench.diagrams import Grid, grid_text
+from measure import HEAD, NO_QUANDLE, PROGRAM, built
 
 # All diagrams of two to six columns, one for each class of translates.
 ALL = 5_616
 # The default budget, which is never spent within six columns, and the largest, which is never spent within seven.
-AMPLE, WIDE = 20_000, 500_000
+AMPLE, VAST = 20_000, 500_000
 # With how many workers each pair is searched, the cap of wide searches, and the greatest spare.
 WORKERS, WIDE_CAP, MOST_SPARE = range(2, 17), 7, 3
-# Stands before each verdict.
-HEAD = "certificate 2\n"
-# A quandle that distinguishes nothing: what is soaked is the search.
-NO_QUANDLE = "quandle trivial 1\n"
 
 
 def grid(luck, size):
@@ -45,17 +42,17 @@ def grid(luck, size):
             return Grid(tuple(xs), tuple(os))
 
 
-def shifted(luck, grid):
+def random_translate(luck, grid):
     """A random translate."""
     for which in ("columns", "rows"):
-        grid = after(grid, ("shift", which, luck.randrange(len(grid.xs)))) or grid
+        grid = legal_after(grid, ("shift", which, luck.randrange(len(grid.xs)))) or grid
     return grid
 
 
 def pair(luck):
     """Two diagrams, and the spare that keeps their cap within six columns."""
     first = grid(luck, luck.randint(2, 5))
-    second = shifted(luck, first) if luck.random() < 0.2 else grid(luck, luck.randint(2, 5))
+    second = random_translate(luck, first) if luck.random() < 0.2 else grid(luck, luck.randint(2, 5))
     return grid_text(first) + grid_text(second) + NO_QUANDLE, luck.randint(0, 1), max(len(first.xs), len(second.xs))
 
 
@@ -65,7 +62,7 @@ def answer(job, words, given):
     return done.stdout, done.returncode
 
 
-def decide(given, spare, budget, workers):
+def decide_answer(given, spare, budget, workers):
     return answer("decide", ["--spare", str(spare), "--budget", str(budget), "--workers", str(workers)], given)
 
 
@@ -92,11 +89,11 @@ def main():
     while sum(kinds.values()) < wanted.searches:
         given, spare, larger = pair(luck)
         is_wide = sum(kinds.values()) < wanted.wide
-        spare, ample, budgets = (min(WIDE_CAP - larger, MOST_SPARE), WIDE, [5_000, 50_000, WIDE]) if is_wide else (spare, AMPLE, [2, 3, 10, 30, 100, 300, 1_000, AMPLE])
-        whole, _ = decide(given, spare, ample, 1)
+        spare, ample, budgets = (min(WIDE_CAP - larger, MOST_SPARE), VAST, [5_000, 50_000, VAST]) if is_wide else (spare, AMPLE, [2, 3, 10, 30, 100, 300, 1_000, AMPLE])
+        whole, _ = decide_answer(given, spare, ample, 1)
         for workers in WORKERS:
             budget = luck.choice(budgets)
-            written, status = decide(given, spare, budget, workers)
+            written, status = decide_answer(given, spare, budget, workers)
             if not is_lawful(whole, larger + spare, budget, written, status, given, ample if is_wide else ALL):
                 sys.exit(f"not lawful: --spare {spare} --budget {budget} --workers {workers}, status {status}\n{given}{written}one worker: {whole}")
             kinds[next(kind for kind in kinds if written.startswith(HEAD + kind))] += 1

@@ -25,26 +25,25 @@ import tempfile
 
 # census knows what is the same, and seek the table.
 from census import AMPHICHIRAL
-from knot_workbench.diagrams import mirror_braid
-from measure import PROGRAM, built
-from seek import SEEK, knots, text_of
+from knot_workbench.diagrams import diagram_text, mirror_braid
+from measure import built
+from seek import LIST, SEEK, knots
 
 TOP = os.path.dirname(os.path.dirname(os.path.abspath(__file__)))
-LIST = os.path.join(TOP, "quandles", "weights", "list.txt")
-KINDS = {"mirrors": "a knot and its mirror image", "knots": "two knots", "turned": "a knot and another's mirror image"}
-MIRROR = "mirror image of "
+PAIR_KINDS = {"mirrors": "a knot and its mirror image", "knots": "two knots", "turned": "a knot and another's mirror image"}
+MIRROR_OF = "mirror image of "
 
 # A pair: its kind, and the names and the braids of both.
-Pair = collections.namedtuple("Pair", "kind first second one two")
+KnotPair = collections.namedtuple("KnotPair", "kind first second one two")
 
 
 def pairs(table):
     """The pairs of a table of names and braids, by the names of their files."""
     for name, braid in table:
-        yield f"{name}-mirror", Pair("mirrors", name, MIRROR + name, braid, mirror_braid(braid))
+        yield f"{name}-mirror", KnotPair("mirrors", name, MIRROR_OF + name, braid, mirror_braid(braid))
     for (name, braid), (other, word) in itertools.combinations(table, 2):
-        yield f"{name}-{other}", Pair("knots", name, other, braid, word)
-        yield f"{name}-mirror-{other}", Pair("turned", name, MIRROR + other, braid, mirror_braid(word))
+        yield f"{name}-{other}", KnotPair("knots", name, other, braid, word)
+        yield f"{name}-mirror-{other}", KnotPair("turned", name, MIRROR_OF + other, braid, mirror_braid(word))
 
 
 def write_problems(folder, table, only):
@@ -53,7 +52,7 @@ def write_problems(folder, table, only):
     os.makedirs(folder, exist_ok=True)
     for name, pair in found.items():
         with open(os.path.join(folder, name + ".txt"), "w", encoding="utf-8") as out:
-            out.write(f"# first: {pair.first}\n{text_of(pair.one)}# second: {pair.second}\n{text_of(pair.two)}")
+            out.write(f"# first: {pair.first}\n{diagram_text(pair.one)}# second: {pair.second}\n{diagram_text(pair.two)}")
     return found
 
 
@@ -66,7 +65,7 @@ def names_of_tables(text):
     return {key: " or ".join(some) for key, some in names.items()}
 
 
-def evidence_of(row, tables):
+def evidence_in_words(row, tables):
     """What distinguishes the diagrams of a row, in words: the lists of colourings by a quandle, their numbers, or those of each weight."""
     said, _, numbers = row["evidence"].partition(": ")
     words = said.removeprefix("numbers ")
@@ -94,27 +93,27 @@ def show_each(rows, found, tables):
     for row in rows:
         pair, different = found[row["name"]], row["verdict"] == "different"
         numbers = row["evidence"].partition(": ")[2]
-        said = f"{evidence_of(row, tables)}{': ' if numbers else ''}{numbers}" if different else ""
+        said = f"{evidence_in_words(row, tables)}{': ' if numbers else ''}{numbers}" if different else ""
         print(" | ".join((f"{pair.first} and {pair.second}", row["verdict"], said, row["check"] or "no certificate", f"{row['seconds']} s")))
     print()
 
 
-def show(rows, found, tables):
+def show_pairs(rows, found, tables):
     """Prints how many pairs of each kind came to what, by which evidence, and which are left: whether anything is wrong."""
     print(f"{'pairs':36} {'all':>5} {'different':>11} {'joined':>7} {'left':>5} {'seconds':>8}")
-    for kind, said in KINDS.items():
+    for kind, said in PAIR_KINDS.items():
         those = [row for row in rows if found[row["name"]].kind == kind]
         counts = collections.Counter(row["verdict"] for row in those)
         if those:
             seconds = sum(float(row["seconds"]) for row in those if row["seconds"])
             print(f"{said:36} {len(those):5} {counts['different']:11} {counts['equal']:7} {counts['unknown']:5} {seconds:8.1f}")
-    by = {kind: collections.Counter() for kind in KINDS}
+    by = {kind: collections.Counter() for kind in PAIR_KINDS}
     for row in rows:
         if row["verdict"] == "different":
-            by[found[row["name"]].kind][evidence_of(row, tables)] += 1
-    print(f"\n{'different by':36} " + " ".join(f"{kind:>8}" for kind in KINDS))
+            by[found[row["name"]].kind][evidence_in_words(row, tables)] += 1
+    print(f"\n{'different by':36} " + " ".join(f"{kind:>8}" for kind in PAIR_KINDS))
     for evidence, _ in sum(by.values(), collections.Counter()).most_common():
-        print(f"{evidence:36} " + " ".join(f"{by[kind][evidence]:8}" for kind in KINDS))
+        print(f"{evidence:36} " + " ".join(f"{by[kind][evidence]:8}" for kind in PAIR_KINDS))
     checked = [row for row in rows if row["check"]]
     print(f"\n{sum(row['check'] == 'accepted' for row in checked)} of {len(checked)} certificates accepted")
     for row in rows:
@@ -131,7 +130,7 @@ def show(rows, found, tables):
 def main():
     words = argparse.ArgumentParser(description=__doc__, formatter_class=argparse.RawDescriptionHelpFormatter)
     words.add_argument("--folder")
-    words.add_argument("--only", choices=sorted(KINDS))
+    words.add_argument("--only", choices=sorted(PAIR_KINDS))
     words.add_argument("--first", type=int)
     words.add_argument("--each", action="store_true")
     words.add_argument("words", nargs="*", help="words of batch.py")
@@ -152,7 +151,7 @@ def main():
             tables = names_of_tables(text.read())
         if asked.each:
             show_each(rows, found, tables)
-        sys.exit(show(rows, found, tables))
+        sys.exit(show_pairs(rows, found, tables))
 
 
 if __name__ == "__main__":

@@ -9,13 +9,15 @@ above a run on the unknot, given twice, with the same quandle and cocycle; readi
 import os
 import tempfile
 
-from grids import UNKNOT, below, crossings, grid_text
-from measure import built, instructions, lines_of, put, wants_no_words
+from grids import below
+from knot_workbench.diagrams import crossings, grid_text
+from knot_workbench.tables.knots import UNKNOT
+from measure import built, instructions, output_lines, wants_no_words, write_input
 
 TETRAHEDRAL = "quandle tetrahedral\nweight 2\n0 1 1 0\n1 0 1 0\n1 1 0 0\n0 0 0 0\n"
 
 
-def trivial(order):
+def trivial_block(order):
     rows = "\n".join(" ".join(str(int(x != y)) for y in range(order)) for x in range(order))
     return f"quandle trivial {order}\nweight 5\n{rows}\n"
 
@@ -29,11 +31,11 @@ def main():
         for size in (5, 10, 24):
             grid = max((below(size, rows) for rows in range(1, size)), key=lambda grid: len(crossings(grid)))
             count = len(crossings(grid))
-            for name, cocycle in (("tetrahedral", TETRAHEDRAL), ("trivial 2", trivial(2)), ("trivial 16", trivial(16))):
-                put(path, 2 * grid_text(UNKNOT) + cocycle)
+            for name, cocycle in (("tetrahedral", TETRAHEDRAL), ("trivial 2", trivial_block(2)), ("trivial 16", trivial_block(16))):
+                write_input(path, 2 * grid_text(UNKNOT) + cocycle)
                 start = instructions("weights", path)
-                put(path, 2 * grid_text(grid) + cocycle)
-                lines = lines_of("weights", path)
+                write_input(path, 2 * grid_text(grid) + cocycle)
+                lines = output_lines("weights", path)
                 if lines[0].startswith("wide"):
                     continue
                 colourings = sum(map(int, lines[0].split()[1:]))

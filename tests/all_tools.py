@@ -23,10 +23,10 @@ import threading
 import time
 
 HERE = os.path.dirname(os.path.realpath(__file__))
-FOLDERS = ("tools", "python", "launcher")
+FOLDERS = ("tools", "make", "upkeep", "python", "launcher")
 
 # Those that take longest begin first.
-SLOW = ("test_tabulate", "test_census", "test_ways", "test_census_answers", "test_table_certificate", "test_batch", "test_batch_examples", "test_batch_hosts",
+SLOW = ("test_tabulate", "test_census", "test_ways", "test_census_answers", "test_table_certificate", "test_batch", "test_batch_examples", "test_batch_faults",
         "test_quandles", "test_from_table", "test_launcher")
 
 FAILED = re.compile(r"^(?:FAIL|ERROR): (.*)$", re.M)

@@ -12,7 +12,7 @@ import shutil
 import sys
 
 TOP = os.path.dirname(os.path.dirname(os.path.abspath(__file__)))
-sys.path.insert(0, os.path.join(TOP, "bench"))
+sys.path.insert(0, os.path.join(TOP, "upkeep"))
 import house_crates  # noqa: E402
 
 PARTS = ("src", "specs", "proofs")

@@ -10,8 +10,8 @@
 
 A copy is made of the files that git tracks in crates/, of crates.txt and of HANDLES, as they are in the work tree. There each crate
 is proved once, by `rt lib` if others use it and else by `rt check`, since an edit of a crate that isn't proved would be refused
-whatever it does. What `rt` has built in the work tree is taken over, so a tree in which tools/build.py has built knot and seek saves
-these proofs; what `rt ci` has kept saves none, since only `rt ci` reads it.
+whatever it does. What `rt check`, `rt lib` and `rt run` have built in the work tree is taken over, and saves these proofs. What
+tools/build.py and `rt ci` have kept saves none: it is statements, without the proofs.
 
 Then edits that change the body of one function are tried together, in a tree beside the copy: one `rt check --only` has one in each
 function, and an edit is refused where its function isn't proved and an error is in that function. Bodies are not read by other
@@ -278,7 +278,7 @@ class Trial:
             print(text, flush=True)
 
     def take_over(self, crate):
-        """Gives the copy the library that rt built of the crate in the work tree, and what it kept there: rt itself looks whether they fit."""
+        """Gives the copy the library that rt built of the crate in the work tree, with its proofs, and what it kept: rt looks whether they fit."""
         here, there = (f"{top}/crates/{crate}/out" for top in (TOP, self.copy))
         stamps = [bytes_of(f"{it}/rlib/stamp") if os.path.isfile(f"{it}/rlib/stamp") else b"" for it in (here, there)]
         if stamps[0] and stamps[0] != stamps[1]:

@@ -34,7 +34,8 @@ from reader import DONE, MALFORMED, OUT_OF_MEMORY, READ_FAULT, USAGE, WRITE_FAUL
 
 HERE = os.path.dirname(os.path.abspath(__file__))
 TOP = os.path.dirname(HERE)
-BAD_INPUTS = os.path.join(TOP, "docs", "BAD-INPUTS.md")
+# The page with the small bad inputs.
+BAD_INPUTS = os.path.join(TOP, "docs", "FORMATS.md")
 EXAMPLES = os.path.join(TOP, "examples")
 
 
@@ -90,7 +91,7 @@ class Trier:
         answer = reader.answer(case.words, case.data, case.program_name)
         problem = crash_of(ended) or answer.problem_with(ended.status, ended.text)
         if case.due is not None and ended.text != case.due:
-            problem = f"text {ended.text[:100]!r}, and BAD-INPUTS.md says {case.due!r}"
+            problem = f"text {ended.text[:100]!r}, and docs/FORMATS.md says {case.due!r}"
         return ended, answer.kind, problem
 
     def due(self, case):

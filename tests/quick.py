@@ -10,6 +10,7 @@ The parts, each of which may be called alone:
   shown        examples/shown.py, the commands that README and guide show
   round trips  tests/round_trips.py, codes of random grids, drawn again
   scripts      tests/tools.sh, the tests of the scripts, of the module and of the launchers
+  linters      tests/linters.py, what pyflakes and mypy find in Python, where they are installed
 
 Each part has a line as it ends, and all that it wrote where it failed. The last line says whether all passed.
 
@@ -35,6 +36,7 @@ PARTS = {
     "shown": ["examples/shown.py"],
     "examples": ["examples/check.sh"],
     "round trips": ["tests/round_trips.py"],
+    "linters": ["tests/linters.py"],
 }
 
 

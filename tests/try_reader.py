@@ -1,6 +1,6 @@
 #!/usr/bin/env python3
-"""Tries the reader without the program: against the stored answers of the examples, the rows of docs/BAD-INPUTS.md, and
-the laws of docs/DEFINITIONS.md on random grids.
+"""Tries the reader without the program: against the stored answers of the examples, the small bad inputs of
+docs/FORMATS.md, and the laws of docs/DEFINITIONS.md on random grids.
 
     python3 tests/try_reader.py [SEED]
 """

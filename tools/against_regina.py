@@ -16,17 +16,19 @@ import os
 import random
 import sys
 
-from lib import calls, crossing_codes
+from lib.calls import calls
+from lib.codes import crossing_codes
 
 import knot_workbench as workbench
-from knot_workbench.diagrams import Lines, grid_of, read_diagram
+from knot_workbench.diagrams import grid_of
+from knot_workbench.texts import Lines, read_diagram
 
 TOP = os.path.dirname(os.path.dirname(os.path.abspath(__file__)))
 
 
 # ---- diagrams
 
-def components_of(grid):
+def component_columns(grid):
     """The columns of each component, in ascending order, by their least one."""
     xs, os_ = grid
     left, found = set(range(len(xs))), []
@@ -101,7 +103,7 @@ def polynomial(code):
 
 def linking_differs(grid):
     ours = list(workbench.linking(grid, grid).first)
-    parts = components_of(grid)
+    parts = component_columns(grid)
     theirs = []
     for place, one in enumerate(parts):
         for two in parts[:place]:
@@ -115,7 +117,7 @@ def word_differs(grid):
     return None if word == diagram else f"braid {strands} {letters} has {word}, the diagram {diagram}"
 
 
-def examples():
+def example_files():
     for folder in ("code", "linking", "braid", "colour"):
         for name in sorted(os.listdir(f"{TOP}/examples/{folder}")):
             if name.endswith(".txt"):
@@ -148,13 +150,13 @@ def main():
     except ImportError as fault:
         sys.exit(f"against_regina.py: {fault}; run it by the Python that Regina is installed for")
     dice = random.Random(words.seed)
-    diagrams = list(examples())
+    diagrams = list(example_files())
     diagrams += [(f"word {number}", random_word(dice)) for number in range(words.words)]
     diagrams += [(f"grid {number}", random_grid(dice, dice.randint(2, words.size))) for number in range(words.grids)]
     links = pairs = differences = 0
     for name, diagram in diagrams:
         grid = grid_of(diagram)
-        parts = len(components_of(grid))
+        parts = len(component_columns(grid))
         links += parts > 1
         pairs += parts * (parts - 1) // 2
         for differs in (linking_differs, word_differs):

@@ -30,29 +30,30 @@ import os
 import signal
 import sys
 import tempfile
-from concurrent.futures import ThreadPoolExecutor
 
-from lib import calls
-from lib.identify_inputs import sentence_of
-from lib.identify_programs import use_programs
-from knot_workbench.answers import ANSWERED, UNKNOWN, Answer
+from lib.calls import calls
+from lib.calls.pools import threads
+from lib.tables.programs import use_programs
+from knot_workbench.answers import ANSWERED, MALFORMED, REJECTED, UNKNOWN, Answer
 from knot_workbench.certificates import check, put_whole
-from knot_workbench.diagrams import Lines, diagram_text, mirror_image, quandle_text, read_diagram, read_quandles, reverse
-from knot_workbench.faults import Failed, Fault, NoFile, NoProgram, OverLimit, Rejected, not_utf8
-from knot_workbench.given import grid_by
-from knot_workbench.programs import default_cocycles, path_of, run
+from knot_workbench.code_grids import Grids
+from knot_workbench.diagrams import Grid, diagram_text, mirror_image, reverse
+from knot_workbench.faults import Failed, Fault, NoFile, NoProgram, Rejected, not_utf8
+from knot_workbench.programs import default_cocycles, end_calls, path_of, run_program
+from knot_workbench.quandles import quandle_text
 from knot_workbench.sources import grid_named
+from knot_workbench.texts import Lines, read_diagram, read_quandles
 
 NAME = "seek"
-# The statuses of seek for what goes wrong here.
-MALFORMED, UNREADABLE, UNWRITABLE, REFUSED, WITHOUT_PROGRAM = 3, 5, 6, 8, 127
+# Further statuses of seek for what goes wrong here.
+UNREADABLE, UNWRITABLE, WITHOUT_PROGRAM = 5, 6, 127
 # The options of seek that have a value, and those of this script.
 VALUED = ("--quandles", "--weights", "--out", "--seed", "--steps", "--room", "--workers", "--braid", "--pd", "--knot", "--problem", "--certificates")
 # The turns of --turns: whether mirrored, whether reversed.
-TURNS = {"as given": (False, False), "mirrored": (True, False), "reversed": (False, True), "mirrored and reversed": (True, True)}
+TURN_OF_WORD = {"as given": (False, False), "mirrored": (True, False), "reversed": (False, True), "mirrored and reversed": (True, True)}
 
 
-class Given(argparse.Action):
+class KeepDiagram(argparse.Action):
     """Keeps how each diagram is given, and in which order."""
 
     def __call__(self, parser, namespace, value, option_string=None):
@@ -67,9 +68,9 @@ def parser():
     words.add_argument("--turns", action="store_true", help="ask about the second diagram as given, mirrored, reversed, and both: a line for each")
     words.add_argument("--problem", metavar="FILE", help="write the problem that seek is asked about to a file")
     words.add_argument("--certificates", metavar="FOLDER", help="with --turns, keep a certificate of each line that isn't open")
-    words.add_argument("--knot", metavar="NAME", action=Given, dest="diagrams", help="a knot of tables/ as a diagram, as 10_132 or '3_1 mirrored'")
+    words.add_argument("--knot", metavar="NAME", action=KeepDiagram, dest="diagrams", help="a knot of tables/ as a diagram, as 10_132 or '3_1 mirrored'")
     for option in ("--file", "--braid", "--pd"):
-        words.add_argument(option, action=Given, dest="diagrams", help=argparse.SUPPRESS)
+        words.add_argument(option, action=KeepDiagram, dest="diagrams", help=argparse.SUPPRESS)
     return words
 
 
@@ -89,7 +90,7 @@ def with_options(words):
     return found
 
 
-def text_in(path):
+def text_at_path(path):
     """The text of a file; of standard input for `-`."""
     try:
         if path == "-":
@@ -104,17 +105,14 @@ def text_in(path):
         calls.end(NAME, f"{path}: {fault.strerror}", UNREADABLE)
 
 
-def diagram_of(way, word):
+def diagram_by(way, word):
     """A diagram that is given in one of the four ways."""
     if way == "--knot":
         return grid_named(word)
     with calls.naming(word if way != "--braid" else f"--braid '{word}'"):
         if way == "--pd":
-            try:
-                return grid_by(text_in(word))
-            except (Rejected, OverLimit) as fault:
-                raise Fault(sentence_of(fault)) from None
-        lines = Lines(text_in(word) if way == "--file" else f"braid {word}\n")
+            return Grid(*Grids().of(text_at_path(word)))
+        lines = Lines(text_at_path(word) if way == "--file" else f"braid {word}\n")
         found = read_diagram(lines)
         lines.done()
     return found
@@ -123,12 +121,12 @@ def diagram_of(way, word):
 def problem_of(given):
     """Both diagrams and the quandles after them. None if the words don't name two diagrams."""
     if len(given) == 2:
-        return diagram_of(*given[0]), diagram_of(*given[1]), []
+        return diagram_by(*given[0]), diagram_by(*given[1]), []
     if len(given) > 2 or given and given[0][0] != "--file":
         return None
     path = given[0][1] if given else "-"
     with calls.naming(path):
-        lines = Lines(text_in(path))
+        lines = Lines(text_at_path(path))
         first, second, quandles = read_diagram(lines), read_diagram(lines), read_quandles(lines)
         lines.done()
     return first, second, quandles
@@ -139,7 +137,7 @@ def turned_problem(problem, is_mirrored, is_reversed):
     first, second, quandles = problem
     second = mirror_image(second) if is_mirrored else second
     second = reverse(second) if is_reversed else second
-    name = next(name for name, turn in TURNS.items() if turn == (is_mirrored, is_reversed))
+    name = next(name for name, turn in TURN_OF_WORD.items() if turn == (is_mirrored, is_reversed))
     remark = f"# the second diagram, {name}\n" if is_mirrored or is_reversed else ""
     return f"{diagram_text(first)}{remark}{diagram_text(second)}{''.join(map(quandle_text, quandles))}"
 
@@ -165,14 +163,14 @@ def ask_once(text, passed):
 
 def found_of(text, passed):
     """What seek writes and says, if it finds something or nothing. Failed if it ends otherwise, or `knot check` rejects what it wrote."""
-    ran = run(NAME, seek_words(passed), text)
+    ran = run_program(NAME, seek_words(passed), text)
     if ran.status not in (ANSWERED, UNKNOWN):
         raise Failed(ran.told.strip().removeprefix(f"{NAME}: ") or ran.text.strip(), ran.status)
     if ran.status == ANSWERED:
         try:
             check(text + ran.text)
         except Rejected as fault:
-            raise Failed(f"knot check rejects what was found: {fault.cause}", REFUSED) from None
+            raise Failed(f"knot check rejects what was found: {fault.cause}", REJECTED) from None
     return ran
 
 
@@ -180,10 +178,10 @@ def ask_all(problem, passed, folder):
     """A line for each turn: the exit status."""
     if folder:
         os.makedirs(folder, exist_ok=True)
-    texts = {name: turned_problem(problem, *turn) for name, turn in TURNS.items()}
+    texts = {name: turned_problem(problem, *turn) for name, turn in TURN_OF_WORD.items()}
     is_open = False
-    with ThreadPoolExecutor(len(TURNS)) as pool:
-        for name, ran in zip(TURNS, pool.map(lambda text: found_of(text, passed), texts.values())):
+    with threads(len(TURN_OF_WORD), end_calls) as pool:
+        for name, ran in zip(TURN_OF_WORD, pool.in_order(lambda text: found_of(text, passed), texts.values())):
             if ran.status == UNKNOWN:
                 is_open = True
                 calls.say(f"{name}: open")

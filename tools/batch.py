@@ -1,22 +1,13 @@
 #!/usr/bin/env python3
 """Runs a folder of problems through knot and seek, stage by stage, and checks each certificate at the end."""
-import os
 import sys
 
-# The lines before the check are such that an older Python reads them too.
-if sys.version_info < (3, 9):
-    sys.stderr.write("batch.py: Python 3.9 or newer is needed, and this is Python %d.%d\n" % sys.version_info[:2])
-    sys.exit(2)
-
-# The script may be called by a symbolic link.
-sys.path.insert(0, os.path.dirname(os.path.realpath(__file__)))
-
-from lib.crashes import crashed
+from lib.calls.crashes import crashed
 
 sys.excepthook = crashed
 
-from lib.batch_call import main
-from lib.calls import ended
+from lib.batch.call import main
+from lib.calls.calls import ended
 
 if __name__ == "__main__":
     sys.exit(ended("batch.py", main, sys.argv[1:], failed=3))

@@ -7,7 +7,8 @@
     tools/code.py --grid 'DT:[(4,6,8,2)]'                        the grid itself, by ./knot grid
 
 CODE is a text as the other program prints it, or the path of a file with one; standard input is read if none is given. It becomes a planar
-diagram code as ./knot grid and ./seek --pd read it, with a comment that says how it was made. These are accepted, in brackets of any kind:
+diagram code as ./knot grid and ./seek --pd read it, with a comment that says how it was made. These are accepted, in brackets of any kind,
+with commas or blanks:
 
 PD     PD[X[4,2,5,1], ..] of KnotTheory, [[4,2,5,1], ..] of KnotInfo, SnapPy and Regina, X4251 X_{3,10,4,11} .. of the Knot Atlas; Sage lists
        edges the other way round, see --sage
@@ -26,33 +27,28 @@ import os
 import re
 import sys
 
-from lib import calls
+from lib.calls import calls
 
-from knot_workbench.code_texts import kind_of_text, lists_in, of_signed, read_text, unwrapped, unwrapped_components
+from knot_workbench.codes.reading import read_signed, read_text
 from knot_workbench.faults import BadCode
 from knot_workbench.given import grid_by
 from knot_workbench.programs import use
 
 TOP = os.path.dirname(os.path.dirname(os.path.realpath(__file__)))
-KINDS = {"pd": "PD", "dt": "DT", "gauss": "Gauss"}
-
-
-def without_comments(text):
-    """A text without the lines that begin with a `#`."""
-    return "".join(line for line in text.splitlines(keepends=True) if not line.lstrip().startswith("#"))
+KIND_OF_WORD = {"pd": "PD", "dt": "DT", "gauss": "Gauss"}
 
 
 def given_text(word):
     """The text of a code: of a file, of standard input, or the word itself."""
     if word is None or word == "-":
-        return without_comments(calls.text_of())
-    return without_comments(calls.text_of(word)) if os.path.isfile(word) else word
+        return calls.input_text()
+    return calls.input_text(word) if os.path.isfile(word) else word
 
 
-def code_of(text, kind, signs, is_sage):
+def code_in_text(text, kind, signs, is_sage):
     """The code of a text. Raises BadCode."""
     if signs is not None:
-        return of_signed(unwrapped_components(unwrapped(lists_in(kind_of_text(text)[1]))), lists_in(signs))
+        return read_signed(text, signs)
     found = read_text(text, kind)
     if is_sage:
         if found.kind != "PD" or found.given is not None:
@@ -72,7 +68,7 @@ def remark(found):
 def main():
     parser = argparse.ArgumentParser(prog="code.py", description=__doc__, formatter_class=argparse.RawDescriptionHelpFormatter)
     parser.add_argument("code", nargs="?", metavar="CODE", help="the code, or a file with it; standard input if none is given")
-    parser.add_argument("--as", dest="kind", choices=sorted(KINDS), help="what the code is")
+    parser.add_argument("--as", dest="kind", choices=sorted(KIND_OF_WORD), help="what the code is")
     parser.add_argument("--signs", metavar="SIGNS", help='the sign of each crossing of a Gauss code, in the order of their numbers, as "1 -1 1"')
     parser.add_argument("--sage", action="store_true", help="rows of a PD code as Sage lists them, clockwise")
     parser.add_argument("--grid", action="store_true", help="write the grid that ./knot grid draws of it")
@@ -80,7 +76,7 @@ def main():
     if words.signs is not None and words.kind not in (None, "gauss"):
         parser.error("--signs goes with a Gauss code")
     with calls.naming(words.code if words.code and os.path.isfile(words.code) else None):
-        found = code_of(given_text(words.code), KINDS.get(words.kind), words.signs, words.sage)
+        found = code_in_text(given_text(words.code), KIND_OF_WORD.get(words.kind), words.signs, words.sage)
     if not words.grid:
         calls.put(None, remark(found) + found.text)
         return

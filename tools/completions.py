@@ -13,7 +13,7 @@ import re
 from collections import namedtuple
 
 import man
-from lib import calls
+from lib.calls import calls
 
 # A word to be completed and what it does. `value` is what an option takes: None, "file", or "words" where nothing can be proposed.
 Word = namedtuple("Word", "name said value")
@@ -26,15 +26,15 @@ def knot_words():
     shown = man.help_of_knot()
     jobs = [Word(name, re.sub(r"`", "", writes), None) for name, _, writes in
             (re.split(r"  +", line.strip(), maxsplit=2) for line in man.help_part(shown, "Jobs,").splitlines())]
-    options = [option_word(tag, said) for tag, said in man.options_of(man.help_part(shown, "Options,"))]
+    options = [option_word(tag, said) for tag, said in man.help_options(man.help_part(shown, "Options,"))]
     return [*jobs, Word("help", "all jobs and options", None)], [*options, Word("--help", "all jobs and options", None), Word("--version", "the version", None)]
 
 
-def seek_words():
+def seek_options():
     """The options of seek."""
-    shown = calls.text_of(os.path.join(man.TOP, "examples", "seek", "help.out"))
+    shown = calls.input_text(os.path.join(man.TOP, "examples", "seek", "help.out"))
     further = man.help_part(man.further_help(), "Options of the launcher")
-    return [option_word(tag, said) for tag, said in man.options_of(man.help_part(shown, "Options:") + further)]
+    return [option_word(tag, said) for tag, said in man.help_options(man.help_part(shown, "Options:") + further)]
 
 
 def option_word(tag, said):
@@ -118,10 +118,10 @@ def fish(name, jobs, options):
     return "\n".join(lines) + "\n"
 
 
-def made():
+def completion_files():
     """The six files by their names."""
     jobs, options = knot_words()
-    own = seek_words()
+    own = seek_options()
     return {"knot.bash": bash("knot", jobs, options), "_knot": zsh("knot", jobs, options), "knot.fish": fish("knot", jobs, options),
             "seek.bash": bash("seek", [], own), "_seek": zsh("seek", [], own), "seek.fish": fish("seek", [], own)}
 
@@ -133,7 +133,7 @@ def main():
     words = parser.parse_args()
     if bool(words.folder) == bool(words.print):
         parser.error("a folder or --print is due")
-    files = made()
+    files = completion_files()
     if words.print:
         if words.print not in files:
             parser.error(f"there is no {words.print}, but {', '.join(files)}")

@@ -16,7 +16,7 @@ passes under. Arrows lead from X to O along the columns and from O to X along th
 """
 import argparse
 
-from lib import calls
+from lib.calls import calls
 
 from knot_workbench.drawing import PALETTE, Frame, along, chosen, picture, read_colours, read_frames
 
@@ -37,7 +37,7 @@ def main():
     if not 8 <= words.cell <= 200 or words.across < 1:
         parser.error("a cell is 8 to 200, and at least one frame is in a line")
     with calls.naming(words.input):
-        frames, is_pair = read_frames(calls.text_of(words.input))
+        frames, is_pair = read_frames(calls.input_text(words.input))
     try:
         kept = chosen(frames, words.frames, words.no_shifts)
     except ValueError:

@@ -7,9 +7,9 @@
 
 Regina lists the rows as they are. Run with Regina 7.3 (Debian's package regina-normal, /usr/bin/python3).
 """
-from lib import codes_in
+from lib.codes import codes_in
 
 from knot_workbench.sources import code_of_regina
 
 if __name__ == "__main__":
-    codes_in.program("from_regina.py", __doc__, "regina", code_of_regina)
+    codes_in.run_from_script("from_regina.py", __doc__, "regina", code_of_regina)

@@ -8,9 +8,9 @@
 Sage lists the edges of a crossing the other way round: [i, l, k, j] for X[i,j,k,l]. This is by its documentation, as tools/to_sage.py found
 it with Sage 9.5; this script was never run with Sage.
 """
-from lib import codes_in
+from lib.codes import codes_in
 
 from knot_workbench.sources import code_of_sage
 
 if __name__ == "__main__":
-    codes_in.program("from_sage.py", __doc__, "sage.all", code_of_sage)
+    codes_in.run_from_script("from_sage.py", __doc__, "sage.all", code_of_sage)

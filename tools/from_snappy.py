@@ -7,9 +7,9 @@
 
 By its documentation SnapPy lists the rows as they are, with edges from 0. This was never run with SnapPy.
 """
-from lib import codes_in
+from lib.codes import codes_in
 
 from knot_workbench.sources import code_of_snappy
 
 if __name__ == "__main__":
-    codes_in.program("from_snappy.py", __doc__, "snappy", code_of_snappy)
+    codes_in.run_from_script("from_snappy.py", __doc__, "snappy", code_of_snappy)

@@ -10,9 +10,9 @@ computed; ./knot simplify may make it smaller. The Alexander polynomial begins a
 """
 import argparse
 
-from lib import calls
-from knot_workbench.diagrams import Lines, read_diagram
+from lib.calls import calls
 from knot_workbench.polynomials import MOST_OPEN, invariants
+from knot_workbench.texts import Lines, read_diagram
 
 
 def main():
@@ -20,7 +20,7 @@ def main():
     parser.add_argument("input", nargs="?", help="a file with one diagram; standard input if none is given")
     words = parser.parse_args()
     with calls.naming(words.input):
-        lines = Lines(calls.text_of(words.input))
+        lines = Lines(calls.input_text(words.input))
         diagram = read_diagram(lines)
         lines.done()
     found = invariants(diagram)

@@ -17,12 +17,15 @@ All moves are made here before anything is written: the file of a list that isn'
 """
 import argparse
 
-from lib import calls
-from knot_workbench.diagrams import BadText, Lines, diagram_text, grid_of, move_text, quandle_text, read_diagram, read_moves, read_quandles
+from lib.calls import calls
+from knot_workbench.diagrams import diagram_text, grid_of
+from knot_workbench.faults import BadText
 from knot_workbench.moves import Illegal, made, tidied, undone
+from knot_workbench.quandles import quandle_text
+from knot_workbench.texts import Lines, move_text, read_diagram, read_moves, read_quandles
 
 
-def walked(grid, moves, name):
+def grids_along(grid, moves, name):
     """All grids along a list of moves, the given one first."""
     grids = [grid]
     for place, move in enumerate(moves):
@@ -36,7 +39,7 @@ def walked(grid, moves, name):
 def read_problem(path):
     """Two diagrams and the quandles after them."""
     with calls.naming(path):
-        lines = Lines(calls.text_of(path))
+        lines = Lines(calls.input_text(path))
         first, second, quandles = read_diagram(lines), read_diagram(lines), read_quandles(lines)
         lines.done()
     return first, second, quandles
@@ -45,7 +48,7 @@ def read_problem(path):
 def read_simplified(path):
     """The grid and the moves that `simplify` or `least` wrote."""
     with calls.naming(path):
-        lines = Lines(calls.text_of(path))
+        lines = Lines(calls.input_text(path))
         grid = grid_of(read_diagram(lines))
         moves = read_moves(lines)
         due = "the line 'irreducible', 'whole' or 'spent'"
@@ -59,7 +62,7 @@ def read_simplified(path):
 def read_equal(path):
     """The moves of a verdict `equal`."""
     with calls.naming(path):
-        lines = Lines(calls.text_of(path))
+        lines = Lines(calls.input_text(path))
         if lines.peek() in ("x", "braid"):
             for _ in range(2):
                 read_diagram(lines)
@@ -74,14 +77,14 @@ def read_equal(path):
     return moves
 
 
-def joined(first, second, simplified, verdict, names):
+def joined_moves(first, second, simplified, verdict, names):
     """The moves from the first grid to the second. `simplified` has both grids and lists of `simplify`, `verdict` the moves between them."""
     walks = []
     for (grid, moves), given, name in zip(simplified, (first, second), names):
-        walks.append(walked(given, moves, name))
+        walks.append(grids_along(given, moves, name))
         if walks[-1][-1] != grid:
             raise calls.Fault(f"{name}: its moves don't lead from the diagram of the problem to its own")
-    if walked(simplified[0][0], verdict, names[2])[-1] != simplified[1][0]:
+    if grids_along(simplified[0][0], verdict, names[2])[-1] != simplified[1][0]:
         raise calls.Fault(f"{names[2]}: its moves don't lead from the first simplified diagram to the second")
     back = [undone(grid, move) for grid, move in zip(walks[1], simplified[1][1])]
     return simplified[0][1] + verdict + back[::-1]
@@ -96,11 +99,11 @@ def main():
     parser.add_argument("--plain", action="store_true", help="version 1, with all moves as they are")
     words = parser.parse_args()
     first, second, quandles = read_problem(words.problem)
-    moves = joined(grid_of(first), grid_of(second), [read_simplified(words.first), read_simplified(words.second)], read_equal(words.verdict),
+    moves = joined_moves(grid_of(first), grid_of(second), [read_simplified(words.first), read_simplified(words.second)], read_equal(words.verdict),
                    (words.first, words.second, words.verdict))
     if not words.plain:
         moves = tidied(grid_of(first), moves)
-    if walked(grid_of(first), moves, "the joined list")[-1] != grid_of(second):
+    if grids_along(grid_of(first), moves, "the joined list")[-1] != grid_of(second):
         raise calls.Fault("the joined list doesn't lead to the second diagram")
     calls.put(words.out, diagram_text(first) + diagram_text(second) + "".join(map(quandle_text, quandles)) + ("" if words.plain else "certificate 2\n")
               + f"equal {len(moves)}\n" + "".join(f"{move_text(move)}\n" for move in moves))

@@ -27,29 +27,31 @@ import csv
 import io
 import os
 import sys
-from concurrent.futures import ThreadPoolExecutor
 
-from lib import calls
-from lib.census_plan import blocks_of as plan_blocks
-from lib.connected import is_connected
-from lib.identify_programs import add_program_words, use_programs
-from lib.table_book import Book
-from lib.table_further import labels_of, rows_by
-from lib.whole_files import write_whole
+from lib.calls import calls
+from lib.calls.pools import threads
+from lib.calls.store import Store
+from lib.calls.whole_files import write_whole
+from lib.tables.blocks import split_blocks as plan_blocks
+from lib.tables.further import BOOK, labels_of, rows_by
+from lib.tables.programs import add_program_words, use_programs
 from knot_workbench import Certificate, Fault, seek
 from knot_workbench.code_grids import Grids
-from knot_workbench.diagrams import Lines, diagram_text, grid_of, read_diagram, read_quandle
+from knot_workbench.diagrams import diagram_text, grid_of
 from knot_workbench.identifying import ROUNDS, smaller, sought
-from knot_workbench.knot_rows import blocks_of, opposite, row_of, text_of
-from knot_workbench.knot_tables import (MIRRORED, SYMMETRIES, KnotTable, beside, default_list, digest, larger_quandles, read_knots, records, rows_text,
-                                        text_in)
-from knot_workbench.table_entries import Conventions, diagram_of
+from knot_workbench.programs import end_calls
+from knot_workbench.tables.entries import Conventions, diagram_of
+from knot_workbench.tables.knots import (MIRRORED, SYMMETRIES, KnotTable, beside, default_list, text_digest, larger_quandles,
+                                         read_knots, records, rows_text, text_in)
+from knot_workbench.tables.numbers import blocks_of, opposite, row_of, text_of_row
+from knot_workbench.texts import Lines, read_diagram, read_quandle
+from knot_workbench.weighing import is_connected
 
 BUDGET = 20_000
 # The steps of walks that join a word to a grid: before larger quandles are tried, and after them.
-SHORT, LONG = 300_000, 8_000_000
+SHORT_WALK, LONG_WALK = 300_000, 8_000_000
 # So many knots are tried before what is known of symmetries is put down.
-FIFTY = 50
+KNOTS_A_WRITE = 50
 
 
 def arcs_text(grid):
@@ -58,18 +60,17 @@ def arcs_text(grid):
 
 
 class Work:
-    """Makes many things at once, says how far it is, and counts what differs."""
+    """Makes many things at once by a pool, says how far it is, and counts what differs."""
 
-    def __init__(self, processes):
-        self.processes, self.differing = processes, 0
+    def __init__(self, pool):
+        self.pool, self.differing = pool, 0
 
-    def each(self, items, make):
+    def each(self, make, items):
         """What is made of each item, in their order."""
-        with ThreadPoolExecutor(self.processes) as pool:
-            for place, found in enumerate(pool.map(make, items), 1):
-                if place % 100 == 0:
-                    calls.note(f"{place} of {len(items)}")
-                yield found
+        for place, found in enumerate(self.pool.in_order(make, items), 1):
+            if place % 100 == 0:
+                calls.note(f"{place} of {len(items)}")
+            yield found
 
     def differs(self, said):
         """Names a line that differs."""
@@ -85,22 +86,22 @@ def grid_of_code(code):
     return smaller(grid, BUDGET)[0]
 
 
-def grids(path, asked, work):
+def redraw_grids(path, asked, work):
     """Draws each code anew, and compares the sizes of the grids: other programs may find other grids, and a smaller one alone is news."""
     text = text_in(path)
     rows = [row for _, row in records(path, text, ("name", "pd_notation", "arc_notation"))]
     knots = read_knots(path)
-    for row, grid in zip(rows, work.each(rows, lambda row: grid_of_code(row["pd_notation"]))):
+    for row, grid in zip(rows, work.each(lambda row: grid_of_code(row["pd_notation"]), rows)):
         if arcs_text(grid) != row["arc_notation"]:
             old = knots[row["name"]].grid
             work.differs(f"{path}: {row['name']}: the grid that is drawn has {grid.size} columns, and that of the table {old.size}"
                          + ("" if grid.size != old.size else ", and isn't the same"))
             row["arc_notation"] = arcs_text(grid)
     if asked.write and work.differing:
-        write_whole(path, table_text(list(rows[0]), rows).encode())
+        write_whole(path, columns_text(list(rows[0]), rows).encode())
 
 
-def table_text(columns, rows):
+def columns_text(columns, rows):
     """The text of a table."""
     out = io.StringIO(newline="")
     writer = csv.DictWriter(out, columns, lineterminator="\n")
@@ -119,21 +120,21 @@ def check_list(text, path):
             raise Fault(f"{path}: {block.quandle.splitlines()[0]} isn't connected")
 
 
-def numbers(path, asked, work):
+def recount_rows(path, asked, work):
     """Counts each row anew, and compares."""
     listed, target = text_in(asked.list), beside(path, ".numbers.txt")
     check_list(listed, asked.list)
     blocks, knots = blocks_of(listed), list(read_knots(path).values())
     old = old_numbers(target, listed)
-    wanted = [knot for knot in knots if asked.all or digest(diagram_text(knot.grid)) not in old]
+    wanted = [knot for knot in knots if asked.all or text_digest(diagram_text(knot.grid)) not in old]
 
     def counted(knot):
-        return [text_of(row_of(grid, listed), blocks) for grid in (knot.grid, knot.grid.mirror())]
+        return [text_of_row(row_of(grid, listed), blocks) for grid in (knot.grid, knot.grid.mirror())]
 
-    rows = {knot.name: texts for knot, texts in zip(wanted, work.each(wanted, counted))}
-    found = [(knot, *(rows.get(knot.name) or old[digest(diagram_text(knot.grid))])) for knot in knots]
+    rows = {knot.name: texts for knot, texts in zip(wanted, work.each(counted, wanted))}
+    found = [(knot, *(rows.get(knot.name) or old[text_digest(diagram_text(knot.grid))])) for knot in knots]
     for knot, *texts in found:
-        if old.get(digest(diagram_text(knot.grid))) != texts:
+        if old.get(text_digest(diagram_text(knot.grid))) != texts:
             work.differs(f"{target}: {knot.name}: the numbers differ from those in the file")
     text = rows_text(listed, found)
     if not work.differing and text != text_or_none(target):
@@ -145,7 +146,7 @@ def numbers(path, asked, work):
 def old_numbers(path, listed):
     """The two rows that are in a file, by the digests of diagrams; none where it was counted by another list."""
     text = text_or_none(path) or ""
-    if not text.startswith(f"list {digest(listed)}\n"):
+    if not text.startswith(f"list {text_digest(listed)}\n"):
         return {}
     lines = [line.split(",") for line in text.splitlines()]
     return {fields[1]: fields[2:] for fields in lines if len(fields) == 4}
@@ -160,7 +161,7 @@ def text_or_none(path):
 
 def evidence_of(first, second, asked):
     """What `seek` finds of two diagrams by the list, by larger quandles and by walks: a certificate that the checker accepted, or None."""
-    for steps, files in ((SHORT, ()), (0, larger_quandles()), (LONG, ())):
+    for steps, files in ((SHORT_WALK, ()), (0, larger_quandles()), (LONG_WALK, ())):
         found = seek(first, second, weights=[asked.list, *files], steps=steps)
         if found is not None:
             found.check()
@@ -175,7 +176,7 @@ def kept(asked, name, certificate):
         certificate.save(os.path.join(asked.certificates, f"{name}.txt"))
 
 
-def names(path, asked, work):
+def join_names(path, asked, work):
     """Joins the word of each knot to its grid."""
     knots = read_knots(path)
     rows = [row for _, row in records(path, text_in(path), ("name", "braid_notation")) if row["braid_notation"]]
@@ -186,7 +187,7 @@ def names(path, asked, work):
         kept(asked, row["name"], found)
         return found
 
-    for row, found in zip(rows, work.each(rows, joined)):
+    for row, found in zip(rows, work.each(joined, rows)):
         if found is None or not found.is_equal:
             work.differs(f"{path}: {row['name']}: the braid word is " + ("not joined to the grid" if found is None else f"another knot: {found}"))
 
@@ -202,22 +203,22 @@ def symmetry_text(found):
     return f"different by {by}" + (f" with a cocycle mod {cocycle.modulus}" if cocycle else "")
 
 
-def symmetry(path, asked, work):
+def find_symmetries(path, asked, work):
     """Joins each knot to itself after each turn, or distinguishes it; what two turns show of the third is taken as shown."""
     found = Symmetries(path, asked)
     found.by_rows(labels_of(found.known.listed), {name: (found.known.row(name), found.known.row(name, MIRRORED)) for name in found.rows}, asked.list)
     mirrors = (MIRROR, MIRROR_REVERSE)
-    for file, columns in [*((file, mirrors) for file in asked.mirrors), *((file, ALL) for file in asked.further)]:
+    for file, columns in [*((file, mirrors) for file in asked.mirrors), *((file, SYMMETRY_COLUMNS) for file in asked.further)]:
         listed = text_in(file)
-        found.by_rows(labels_of(listed, file), rows_by(found.known, found.open_names(columns), listed, work.each, found.book), file)
+        found.by_rows(labels_of(listed, file), rows_by(found.known, found.open_names(columns), listed, work.each, found.store), file)
     for seed, steps in rounds_to(asked.rounds):
-        effort = Effort(f"{seed} {steps}", lambda *grids: walked(*grids, seed, steps))
-        found.try_all(f"walks of {steps} steps", effort, asked.walk or ALL, work)
+        effort = Effort(f"{seed} {steps}", lambda *grids: certificate_of_walk(*grids, seed, steps))
+        found.try_all(f"walks of {steps} steps", effort, asked.walk or SYMMETRY_COLUMNS, work)
     found.put()
     for row in found.rows.values():
         if row != found.old.get(row["name"]):
             work.differs(f"{found.target}: {row['name']}: {', '.join(f'{column} {row[column]}' for column, _ in SYMMETRIES)}")
-    for kind, count in sorted(collections.Counter(map(kind_of, found.rows.values())).items()):
+    for kind, count in sorted(collections.Counter(map(symmetry_in_words, found.rows.values())).items()):
         calls.note(f"{path}: {kind}: {count}")
 
 
@@ -226,11 +227,11 @@ def rounds_to(count):
     return [ROUNDS[place] if place < len(ROUNDS) else (place + 1, ROUNDS[-1][1]) for place in range(count)]
 
 
-# What may show a symmetry: its name in the book, and what it finds of two grids, a certificate that the checker accepted or None.
+# What may show a symmetry: its name in the store, and what it finds of two grids, a certificate that the checker accepted or None.
 Effort = collections.namedtuple("Effort", "mark find")
 
 
-def walked(first, second, seed, steps):
+def certificate_of_walk(first, second, seed, steps):
     """What a walk finds of two grids: a certificate that the checker accepted, or None."""
     verdict = sought(first, second, seed, steps)
     if verdict is None:
@@ -240,7 +241,7 @@ def walked(first, second, seed, steps):
     return found
 
 
-ALL = MIRROR, REVERSE, MIRROR_REVERSE = tuple(column for column, _ in SYMMETRIES)
+SYMMETRY_COLUMNS = MIRROR, REVERSE, MIRROR_REVERSE = tuple(column for column, _ in SYMMETRIES)
 
 # The turns that are tried first: most knots are distinguished from their mirror images by rows, and most others are their own reverses.
 TRIED = (SYMMETRIES[1], SYMMETRIES[0], SYMMETRIES[2])
@@ -256,9 +257,9 @@ class Symmetries:
         self.old = {row["name"]: row for _, row in records(self.target, text_in(self.target), self.columns)} if os.path.exists(self.target) else {}
         kept = {} if asked.all else self.old
         self.rows = {name: {**dict.fromkeys(self.columns, "open"), "name": name, **kept.get(name, {})} for name in self.known.knots}
-        self.book = Book(asked.book) if asked.book else None
+        self.store = Store(asked.book, BOOK) if asked.book else None
 
-    def open_names(self, columns=ALL):
+    def open_names(self, columns=SYMMETRY_COLUMNS):
         """The knots of which some symmetry of these isn't known."""
         return [name for name, row in self.rows.items() if any(row[column] == "open" for column in columns)]
 
@@ -276,7 +277,7 @@ class Symmetries:
             row, mirrored = rows[name]
             turned = {"mirror": mirrored, "reverse": opposite(mirrored, blocks), "mirror_reverse": opposite(row, blocks)}
             for column, turn in TRIED:
-                label = self.rows[name][column] == "open" and first_difference(labels, row, turned[column])
+                label = self.rows[name][column] == "open" and differing_block(labels, row, turned[column])
                 if label and self.is_kept(name, column, turn, file):
                     self.take(self.rows[name], column, f"different by {label}")
 
@@ -292,19 +293,19 @@ class Symmetries:
         return found is not None
 
     def place(self, name, column, effort):
-        """The name of an effort in the book."""
-        return f"{digest(diagram_text(self.known.knots[name].grid))} {column} {effort.mark}"
+        """The name of an effort in the store."""
+        return f"{text_digest(diagram_text(self.known.knots[name].grid))} {column} {effort.mark}"
 
     def try_all(self, said, effort, columns, work):
-        """Takes what an effort shows of all symmetries in these columns that are open, and notes it in the book."""
+        """Takes what an effort shows of all symmetries in these columns that are open, and notes it in the store."""
         due = self.open_names(columns)
         calls.note(f"{self.target}: {said} for {len(due)} knots")
-        for place, (name, shown) in enumerate(zip(due, work.each(due, lambda name: self.shown(name, effort, columns))), 1):
+        for place, (name, shown) in enumerate(zip(due, work.each(lambda name: self.shown(name, effort, columns), due)), 1):
             for column, text in shown.items():
                 self.take(self.rows[name], column, text)
-                if self.book and [text] != self.book.lines.get(self.place(name, column, effort)):
-                    self.book.add(self.place(name, column, effort), text)
-            if place % FIFTY == 0:
+                if self.store and [text] != self.store.answers.get(self.place(name, column, effort)):
+                    self.store.put(self.place(name, column, effort), text)
+            if place % KNOTS_A_WRITE == 0:
                 self.put()
 
     def shown(self, name, effort, columns):
@@ -312,7 +313,7 @@ class Symmetries:
         row, grid, found = dict(self.rows[name]), self.known.knots[name].grid, {}
         for column, turn in TRIED:
             if row[column] == "open" and column in columns:
-                before = self.book.lines.get(self.place(name, column, effort)) if self.book else None
+                before = self.store.answers.get(self.place(name, column, effort)) if self.store else None
                 if before is None or (self.asked.certificates and before != ["open"]):
                     certificate = effort.find(grid, turn.of(grid))
                     kept(self.asked, f"{name}-{column}", certificate)
@@ -324,15 +325,15 @@ class Symmetries:
     def put(self):
         """Puts what is known into the file, where that is asked for."""
         if self.asked.write:
-            write_whole(self.target, table_text(self.columns, self.rows.values()).encode())
+            write_whole(self.target, columns_text(self.columns, self.rows.values()).encode())
 
 
-def first_difference(labels, one, other):
+def differing_block(labels, one, other):
     """By which block of a list two rows differ, or None."""
     return next((label for label, first, second in zip(labels, one, other) if first is not None and second is not None and first != second), None)
 
 
-def kind_of(row):
+def symmetry_in_words(row):
     """What a knot is joined to, by its row."""
     joined = [words for column, words in (("mirror", "mirror images"), ("reverse", "reverses"), ("mirror_reverse", "reversed mirror images"))
               if row[column] == "equal"]
@@ -362,7 +363,7 @@ def main():
     parser.add_argument("--mirrors", action="append", default=[], metavar="FILE", help="a further list that may rule mirror images out")
     parser.add_argument("--rounds", type=int, default=len(ROUNDS), metavar="N",
                         help="how many rounds of walks for symmetries, after the fourth each as long and with another seed (default: %(default)s)")
-    parser.add_argument("--walk", action="append", choices=ALL, help="walks for this symmetry alone; it may be given several times")
+    parser.add_argument("--walk", action="append", choices=SYMMETRY_COLUMNS, help="walks for this symmetry alone; it may be given several times")
     parser.add_argument("--book", metavar="FILE", help="keep what was counted and walked for symmetries here")
     parser.add_argument("--list", metavar="FILE", help="the list of quandles by which is counted")
     add_program_words(parser)
@@ -370,11 +371,12 @@ def main():
     asked.list = asked.list or default_list()
     use_programs(asked.knot, asked.seek)
     differing = 0
-    for path in asked.tables:
-        work = Work(asked.processes)
-        {"grids": grids, "numbers": numbers, "names": names, "symmetry": symmetry}[asked.what](path, asked, work)
-        differing += work.differing
-        calls.say(f"{path}: {asked.what}: " + (f"{work.differing} lines differ" if work.differing else "as in the file"))
+    with threads(asked.processes, end_calls) as pool:
+        for path in asked.tables:
+            work = Work(pool)
+            {"grids": redraw_grids, "numbers": recount_rows, "names": join_names, "symmetry": find_symmetries}[asked.what](path, asked, work)
+            differing += work.differing
+            calls.say(f"{path}: {asked.what}: " + (f"{work.differing} lines differ" if work.differing else "as in the file"))
     sys.exit(1 if differing and not asked.write else 0)
 
 

@@ -13,14 +13,14 @@ import os
 import re
 import subprocess
 
-from lib import calls
+from lib.calls import calls
 
 TOP = os.path.dirname(os.path.dirname(os.path.realpath(__file__)))
 
 
 def document(*parts):
     """A document of the tree."""
-    return calls.text_of(os.path.join(TOP, *parts))
+    return calls.input_text(os.path.join(TOP, *parts))
 
 
 def section(text, title):
@@ -33,7 +33,7 @@ def section(text, title):
     return rest[:following.start()] if following else rest
 
 
-def table_of(text, first):
+def table_after(text, first):
     """The lines of the table whose heading begins with this cell."""
     found = re.search(rf"(?m)^\| {re.escape(first)} \|.*\n(?:\|.*\n?)*", text)
     if not found:
@@ -162,7 +162,7 @@ def help_part(text, first):
     return found[1]
 
 
-def options_of(text):
+def help_options(text):
     """The options of a help, each with what it says, as pairs."""
     return re.findall(r"(?m)^ +((?:-\w, )?--[a-z-]+(?: <?[A-Z]+>?)?)  +(\S.*)$", text)
 
@@ -182,9 +182,9 @@ def knot_page():
     text += f".SH DESCRIPTION\n{inline(about)} The input of a job comes from standard input.\n" + roff(section(document("docs", "GUIDE.md"), "Grids"))
     text += ".PP\nA diagram is a grid, or a braid word, which means its closure: the number of strands and the letters, as\n"
     text += "\n".join(block(["braid 2 1 1 1"])) + "\n.PP\nAll texts are described in\n.BR knot\\-formats (5).\n"
-    text += ".SH JOBS\n" + roff(table_of(readme, "job"))
-    text += ".SH OPTIONS\n" + roff(table_of(section(document("docs", "FORMATS.md"), "The command line"), "option"))
-    text += ".SH EXIT STATUS\n" + roff(table_of(readme, "status"))
+    text += ".SH JOBS\n" + roff(table_after(readme, "job"))
+    text += ".SH OPTIONS\n" + roff(table_after(section(document("docs", "FORMATS.md"), "The command line"), "option"))
+    text += ".SH EXIT STATUS\n" + roff(table_after(readme, "status"))
     text += ".SH EXAMPLES\n.PP\nIs the evidence in a file right?\n" + "\n".join(block(["knot check < certificate.txt"]))
     text += "\n.PP\nCompare the two diagrams in a file, and check the answer:\n"
     text += "\n".join(block(["knot decide < problem.txt > verdict.txt", "cat problem.txt verdict.txt | knot check"])) + "\n"
@@ -193,7 +193,7 @@ def knot_page():
 
 def checker_page():
     about = section(document("docs", "GUIDE.md"), "The separate checker").strip().split("\n\n")[0].replace("`knot_check`", "`knot-check`")
-    statuses = table_of(document("README.md"), "status")
+    statuses = table_after(document("README.md"), "status")
     text = head("knot-check", 1, "knot and seek")
     text += ".SH NAME\nknot\\-check \\- checks evidence that two knots or links are the same, or differ\n.SH SYNOPSIS\n\\fBknot\\-check\\fR < INPUT\n"
     text += ".SH DESCRIPTION\n" + roff(about) + ".SH EXIT STATUS\n" + roff(statuses_of_checker(statuses))
@@ -212,7 +212,7 @@ def seek_page():
     text = head("seek", 1, "knot and seek")
     text += f".SH NAME\nseek \\- seeks evidence that two knots or links are the same, or differ\n.SH SYNOPSIS\n\\fBseek\\fR {escaped(usage)}\n"
     text += f".SH DESCRIPTION\n{inline(shown.splitlines()[0])}\n" + roff(paragraphs(help_after(shown, "A PROBLEM is", "\nWhat is written")))
-    text += ".SH OPTIONS\n" + tagged(options_of(help_part(shown, "Options:")) + options_of(help_part(further_help(), "Options of the launcher")))
+    text += ".SH OPTIONS\n" + tagged(help_options(help_part(shown, "Options:")) + help_options(help_part(further_help(), "Options of the launcher")))
     text += ".SH EXIT STATUS\n" + roff(paragraphs(help_after(shown, "What is written", None)))
     text += ".SH EXAMPLES\n" + roff(guide)
     return text + ".SH SEE ALSO\n.BR knot (1),\n.BR knot\\-formats (5)\n"
@@ -249,7 +249,7 @@ def formats_page():
             + body[:first] + body[first:] + ".SH SEE ALSO\n.BR knot (1),\n.BR seek (1)\n")
 
 
-def page(made):
+def manual_page(made):
     return without_empty_paragraphs(made())
 
 
@@ -264,12 +264,12 @@ def main():
     if bool(words.folder) == bool(words.print):
         parser.error("a folder or --print is due")
     if words.print:
-        calls.put(None, page(PAGES[words.print]))
+        calls.put(None, manual_page(PAGES[words.print]))
         return
     if not os.path.isdir(words.folder):
         parser.error(f"there is no folder {words.folder}")
     for name, made in PAGES.items():
-        calls.put(os.path.join(words.folder, name), page(made))
+        calls.put(os.path.join(words.folder, name), manual_page(made))
 
 
 if __name__ == "__main__":

@@ -101,7 +101,7 @@ END
 cat >"$root/DEBIAN/prerm" <<'END' || exit 1
 #!/bin/sh
 set -e
-rm -rf /usr/lib/python3/dist-packages/knot_workbench/__pycache__ /usr/share/knot-workbench/tools/__pycache__ /usr/share/knot-workbench/tools/lib/__pycache__
+find /usr/lib/python3/dist-packages/knot_workbench /usr/share/knot-workbench/tools -name __pycache__ -prune -exec rm -rf {} +
 END
 chmod 755 "$root/DEBIAN/prerm" || exit 1
 (cd "$root" && find usr -type f -print0 | sort -z | xargs -0 md5sum) >"$root/DEBIAN/md5sums" || exit 1

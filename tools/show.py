@@ -18,7 +18,7 @@ Each move is made and each listed colouring is tried here, but only ./knot check
 """
 import argparse
 
-from lib import calls
+from lib.calls import calls
 
 from knot_workbench.faults import NoJob
 from knot_workbench.pages import page
@@ -37,7 +37,7 @@ def main():
     words = parser.parse_args()
     with calls.naming(words.certificate):
         try:
-            made = page(calls.text_of(words.certificate), words.title, quandle=words.quandle, plain=words.plain, frames=words.frames,
+            made = page(calls.input_text(words.certificate), words.title, quandle=words.quandle, plain=words.plain, frames=words.frames,
                         no_shifts=words.no_shifts, check=words.check)
         except NoJob as fault:
             parser.error(f"--{fault}")

@@ -7,14 +7,14 @@
 
 Regina takes the rows as they are. Run with Regina 7.3 (Debian's package regina-normal, /usr/bin/python3).
 """
-from lib import crossing_codes
+from lib.codes import crossing_codes
 
 
-def expression(code):
+def expression_for_regina(code):
     return f"Link.fromPD({code.rows})" if code.rows else f"Link({code.loops})"
 
 
-def built(code):
+def show_in_regina(code):
     import regina
 
     # Without crossings there is nothing to read, and Regina makes circles by their number.
@@ -29,4 +29,4 @@ def built(code):
 
 
 if __name__ == "__main__":
-    crossing_codes.program("to_regina.py", __doc__, expression, built)
+    crossing_codes.run_to_script("to_regina.py", __doc__, expression_for_regina, show_in_regina)

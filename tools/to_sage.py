@@ -10,23 +10,23 @@ Loops alone are always given kinks: Sage 9.5 takes a braid without letters for o
 polynomial is asked for by the sum over states: the other way of Sage 9.5 goes through a braid, and was wrong, or did not end, for a
 component that passes over everywhere.
 """
-from lib import crossing_codes
+from lib.codes import crossing_codes
 
 
-def rows_of(code):
+def sage_rows(code):
     if not code.rows and code.loops > 1:
         code = crossing_codes.kinked(code)
     return [[i, l, k, j] for i, j, k, l in code.rows]
 
 
-def expression(code):
-    return f"Link({rows_of(code)})"
+def expression_for_sage(code):
+    return f"Link({sage_rows(code)})"
 
 
-def built(code):
+def show_in_sage(code):
     from sage.all import Link
 
-    link = Link(rows_of(code))
+    link = Link(sage_rows(code))
     print(link)
     print(f"components {link.number_of_components()}")
     if code.rows:
@@ -37,4 +37,4 @@ def built(code):
 
 
 if __name__ == "__main__":
-    crossing_codes.program("to_sage.py", __doc__, expression, built)
+    crossing_codes.run_to_script("to_sage.py", __doc__, expression_for_sage, show_in_sage)

@@ -7,14 +7,14 @@
 
 By its documentation SnapPy takes the rows as they are. This was never run with SnapPy.
 """
-from lib import crossing_codes
+from lib.codes import crossing_codes
 
 
-def expression(code):
+def expression_for_snappy(code):
     return f"Link({[tuple(row) for row in code.rows]})"
 
 
-def built(code):
+def show_in_snappy(code):
     import snappy
 
     if not code.rows:
@@ -28,4 +28,4 @@ def built(code):
 
 
 if __name__ == "__main__":
-    crossing_codes.program("to_snappy.py", __doc__, expression, built)
+    crossing_codes.run_to_script("to_snappy.py", __doc__, expression_for_snappy, show_in_snappy)

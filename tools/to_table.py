@@ -13,20 +13,19 @@ import argparse
 import csv
 import io
 
-from lib import calls
-from lib.table_call import read_bytes
-from lib.table_inputs import file_name, free_name
-from lib.table_rows import TableError, column_of, delimiter_of, decoded, rows_of
+from lib.calls import calls
+from lib.tables.files import file_name, free_name, read_bytes
+from knot_workbench.tables.rows import TableError, column_of, delimiter_of, decoded, numbered_rows
 
 # The columns of results that are taken where no words name others, as far as they are there.
 TAKEN = ("class", "as", "known", "verdict", "evidence", "stage", "answer", "ruling", "check")
 
 
-def read(path, delimiter=None):
+def header_and_rows(path, delimiter=None):
     """The header and the rows of a table, and what parts its fields."""
     data = read_bytes(path)
     parted = delimiter or delimiter_of(path, decoded(path, data).split("\n", 1)[0])
-    rows = [fields for _, fields in rows_of(path, data, parted)]
+    rows = [fields for _, fields in numbered_rows(path, data, parted)]
     if not rows:
         raise TableError(f"{path}: the table is empty")
     return rows[0], rows[1:], parted
@@ -56,10 +55,10 @@ def columns_of(path, header, asked):
     return found
 
 
-def joined(options):
+def joined_table(options):
     """The lines of the table with its results; how many rows have none; and the names of results that belong to no row."""
-    header, rows, parted = read(options.table, "\t" if options.delimiter == "\\t" else options.delimiter)
-    head, results, _ = read(options.results)
+    header, rows, parted = header_and_rows(options.table, "\t" if options.delimiter == "\\t" else options.delimiter)
+    head, results, _ = header_and_rows(options.results)
     name, taken = column_of(options.table, header, options.name), columns_of(options.results, head, options.columns)
     own = column_of(options.results, head, options.result_name)
     by_name = {fields[own]: fields for fields in results if own < len(fields)}
@@ -86,7 +85,7 @@ def main():
     parser.add_argument("--delimiter", metavar="MARK", help="what separates the fields of TABLE (default: by its name and first line)")
     parser.add_argument("--out", metavar="FILE", help="where the table goes; standard output if none is given")
     options = parser.parse_args()
-    text, without, strange = joined(options)
+    text, without, strange = joined_table(options)
     calls.put(options.out, text)
     if without:
         calls.note(f"to_table.py: {without} rows have no result")

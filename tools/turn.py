@@ -16,8 +16,9 @@ the Xs and the Os have changed places; the reverse of a braid has its letters in
 """
 import argparse
 
-from lib import calls
-from knot_workbench.diagrams import Lines, diagram_text, mirror_image, read_diagram, reverse
+from lib.calls import calls
+from knot_workbench.diagrams import diagram_text, mirror_image, reverse
+from knot_workbench.texts import Lines, read_diagram
 
 
 def main():
@@ -29,7 +30,7 @@ def main():
     if not (words.mirror or words.reverse):
         parser.error("--mirror, --reverse or both are due")
     with calls.naming(words.input):
-        lines = Lines(calls.text_of(words.input))
+        lines = Lines(calls.input_text(words.input))
         diagram = read_diagram(lines)
         lines.done()
     if words.mirror:

@@ -23,4 +23,4 @@ if [ $# -eq 2 ] && [ "${SLURM_ARRAY_TASK_MIN:-1}/${SLURM_ARRAY_TASK_MAX:-$parts}
     echo "array-job.sh: the array has no tasks 1 to N: say how many parts there are, as the third word" >&2
     exit 2
 fi
-exec tools/batch.py --with python --processes "${SLURM_CPUS_PER_TASK:-4}" --part "$task/$parts" "$1" "$2"
+exec tools/batch.py --processes "${SLURM_CPUS_PER_TASK:-4}" --part "$task/$parts" "$1" "$2"

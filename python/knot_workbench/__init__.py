@@ -30,7 +30,7 @@ if sys.version_info < (3, 9):
 from .certificates import Certificate, Counted, Different, DifferentLinking, DifferentNumbers, Equal, Linked, Unknown, check
 from .cocycles import Cocycle, ShadowCocycle
 from .codes import Code, read_code
-from .diagrams import Braid, Diagram, Grid, Move, Quandle, built_in_list, move_text
+from .diagrams import Braid, Diagram, Grid, Move
 from .drawing import draw
 from .faults import (BadAnswer, BadCode, BadDiagram, BadText, Failed, Fault, Illegal, Malformed, NoFile, NoJob, NoProgram, OverLimit, Rejected,
                      TimedOut, Wide)
@@ -38,14 +38,16 @@ from .given import diagram
 from .identifying import Identified, identify
 from .jobs import (Colourings, Compared, Least, Numbers, Replayed, Simplified, braid_word, cocycle, code, colour, decide, from_code, from_dt,
                    from_gauss, from_pd, least, linking, numbers, quandle, replay, seek, simplify, weights)
-from .knot_tables import KnotTable, Turn
 from .pages import page
 from .polynomials import Invariants, invariants
 from .programs import path_of, use
+from .quandles import Quandle, built_in_list
 from .sorting import Census, census
 from .sources import from_regina, from_sage, from_snappy, from_table
-from .table_entries import EntryError
-from .table_rows import TableError
+from .tables.entries import EntryError
+from .tables.knots import KnotTable, Turn
+from .tables.rows import TableError
+from .texts import move_text
 
 __all__ = ("BadAnswer", "BadCode", "BadDiagram", "BadText", "Braid", "Census", "Certificate", "Cocycle", "Code", "Colourings", "Compared",
            "Counted", "Diagram", "Different", "DifferentLinking", "DifferentNumbers", "EntryError", "Equal", "Failed", "Fault", "Grid",

@@ -12,8 +12,9 @@ from contextlib import contextmanager
 from typing import Any, Iterator, List, NamedTuple, Optional, Tuple
 
 from .certificates import numbers_behind, read_verdict
-from .diagrams import Braid, Grid, Lines, Move, Rows, number_of, read_grid, read_moves
+from .diagrams import Braid, Grid, Move, Rows
 from .faults import BadAnswer, BadCode, BadDiagram, BadText
+from .texts import Lines, number_of, read_grid, read_moves
 
 # Exit statuses of knot; seek has the same.
 ANSWERED, UNKNOWN, NO_JOB, MALFORMED, LIMIT, REJECTED = 0, 1, 2, 3, 4, 8

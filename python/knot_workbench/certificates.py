@@ -1,13 +1,14 @@
 """Certificates: two diagrams, perhaps quandles, and a verdict on the two with its evidence."""
 import os
-from typing import List, NamedTuple, Optional, Sequence, Tuple, Union
+from typing import Any, Dict, List, NamedTuple, Optional, Sequence, Tuple, Union
 
 from .cocycles import Cocycle, ShadowCocycle, read_cocycle, read_shadow
-from .diagrams import (MAX_LARGE_ORDER, Braid, Diagram, Grid, Lines, Move, Quandle, Rows, diagram_text, grid_of, move_text, number_of, quandle_named, quandle_text,
-                       read_diagram, read_moves, read_quandle, read_quandles)
+from .diagrams import Braid, Diagram, Grid, Move, Rows, diagram_text, grid_of
 from .faults import BadDiagram, BadText, Fault, Illegal, NoFile, Rejected, not_utf8
 from .moves import carried, made
 from .programs import answered
+from .quandles import MAX_LARGE_ORDER, Quandle, quandle_text
+from .texts import Lines, move_text, number_of, quandle_named, read_diagram, read_moves, read_quandle, read_quandles
 
 
 class Equal(NamedTuple):
@@ -167,7 +168,8 @@ class Certificate:
         verdict = self.verdict
         if isinstance(verdict, Equal):
             raise Fault("the moves of 'equal' lead from the first diagram to the second: seek the other way round")
-        return Certificate(self.second, self.first, verdict._replace(first=verdict.second, second=verdict.first), self.quandles, self.version)
+        sides: Dict[str, Any] = {"first": verdict.second, "second": verdict.first}
+        return Certificate(self.second, self.first, verdict._replace(**sides), self.quandles, self.version)
 
     def grids(self) -> List[Grid]:
         """The grids along the moves, that of the first diagram first. Raises Illegal where a move isn't legal."""
@@ -276,7 +278,7 @@ def read_verdict(lines: Lines, first: Optional[Grid] = None, second: Optional[Gr
         verdict = Equal(tuple(read_moves(lines)))
     elif lines.peek() == "different":
         quandle = read_quandle(lines, "different")
-        verdict = Different(quandle, *(read_list(lines, len(grid.xs) if grid else None, quandle.order) for grid in (first, second)))
+        verdict = Different(quandle, *(read_colour_list(lines, len(grid.xs) if grid else None, quandle.order) for grid in (first, second)))
     else:
         verdict = read_unknown(lines)
     lines.done()
@@ -327,7 +329,7 @@ def read_unknown(lines: Lines) -> Unknown:
     raise BadText("a verdict 'equal', 'different' or 'unknown' is due", line)
 
 
-def read_colours(lines: Lines, size: int, order: int) -> Rows:
+def read_colour_line(lines: Lines, size: int, order: int) -> Rows:
     """A line of so many colours below an order."""
     line, tokens = lines.take("a line of colours")
     colours = tuple(number_of(token, line) for token in tokens)
@@ -336,11 +338,11 @@ def read_colours(lines: Lines, size: int, order: int) -> Rows:
     return colours
 
 
-def read_list(lines: Lines, size: Optional[int], order: int) -> Tuple[Rows, ...]:
+def read_colour_list(lines: Lines, size: Optional[int], order: int) -> Tuple[Rows, ...]:
     """The item `list`: so many lines of colours, where no size is given each as long as the first."""
     line, tokens = lines.take("the line 'list'")
     if tokens[0] != "list" or len(tokens) != 2:
         raise BadText("a line 'list' with a number is due", line)
     if size is None:
         size = len(lines.lines[lines.place][1]) if lines.peek() is not None else 0
-    return tuple(read_colours(lines, size, order) for _ in range(number_of(tokens[1], line)))
+    return tuple(read_colour_line(lines, size, order) for _ in range(number_of(tokens[1], line)))

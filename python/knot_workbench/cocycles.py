@@ -5,8 +5,9 @@ A cocycle φ mod k is a square of numbers: line x has φ(x, 0), φ(x, 1), and so
 import itertools
 from typing import List, NamedTuple, Optional, Sequence, Tuple
 
-from .diagrams import MAX_ORDER, Lines, Quandle, Table, number_of, read_quandle
 from .faults import BadText
+from .quandles import MAX_ORDER, Quandle, QuandleTable
+from .texts import Lines, number_of, read_quandle
 
 MAX_MODULUS = 255
 
@@ -15,7 +16,7 @@ class Cocycle(NamedTuple):
     """A 2-cocycle of a quandle: its modulus, and `values[x][y]`, which is φ(x, y)."""
 
     modulus: int
-    values: Table
+    values: QuandleTable
 
     @property
     def text(self) -> str:
@@ -27,7 +28,7 @@ class ShadowCocycle(NamedTuple):
     """A shadow cocycle of a quandle: its modulus, and `values[w][x][y]`, which is θ(w, x, y); None where it is that of Mochizuki's formula."""
 
     modulus: int
-    values: Optional[Tuple[Table, ...]]
+    values: Optional[Tuple[QuandleTable, ...]]
 
     @property
     def text(self) -> str:

@@ -1,10 +1,8 @@
 """Grids of planar diagram codes, by the job `grid` of knot."""
 import re
-import subprocess
 
-from . import pd_codes
 from .faults import Fault, NoProgram
-from .programs import Ran, fault_of, path_of
+from .programs import CALLER, fault_of, path_of
 
 GRID = re.compile(r"x((?: [0-9]+)+)\no((?: [0-9]+)+)\n")
 CAUSES = (
@@ -24,33 +22,35 @@ class NoGrid(Fault):
     """A code has no grid: the sentence says why."""
 
 
+def cause_of(said):
+    """Why a code has no grid, in words, by what `knot grid` says; None where that is something else."""
+    for form, sentence in CAUSES:
+        cause = re.fullmatch(form, said)
+        if cause:
+            return sentence.format(*cause.groups())
+    return None
+
+
 class Grids:
     """Makes grids of codes by one program, or by the one that programs.py finds."""
 
     def __init__(self, program=None):
         self.program = program
 
-    def of(self, rows, loops=0):
-        """The rows of the crosses and of the rings of a grid with this PD code. NoGrid where there is none, Failed where the program gave no
-        answer, and NoProgram where it can't be run or isn't this one."""
+    def of(self, text):
+        """The rows of the crosses and of the rings of a grid with the PD code of a text, as `knot grid` reads it. NoGrid where there is none,
+        Failed where the program gave no answer, and NoProgram where it can't be run or isn't this one."""
         program = self.program or path_of("knot")
         try:
-            done = subprocess.run([program, "grid"], input=pd_codes.text_of(rows, loops).encode(), stdout=subprocess.PIPE, stderr=subprocess.PIPE,
-                                  check=False)
+            ran = CALLER.run([program, "grid"], text.encode())
         except OSError as error:
             raise NoProgram(f"{program}: {error.strerror}") from None
-        said = done.stdout.decode("utf-8", "replace")
-        found = GRID.fullmatch(said)
-        if done.returncode == 0 and found:
+        found = GRID.fullmatch(ran.text)
+        if ran.status == 0 and found:
             return tuple([int(word) for word in marks.split()] for marks in found.groups())
-        for form, sentence in CAUSES:
-            cause = re.fullmatch(form, said.strip())
-            if cause:
-                raise NoGrid(sentence.format(*cause.groups()))
-        if done.returncode in (3, 4, 8):
-            raise NoGrid(f"`knot grid` says '{said.strip()}'")
-        stderr = done.stderr.decode("utf-8", "replace")
-        if done.returncode < 0 or done.returncode in WITHOUT_ANSWER:
-            raise fault_of("knot", ["grid"], Ran(done.returncode, said, stderr))
-        told = stderr.strip().splitlines()
-        raise NoProgram(f"{program} grid ended with status {done.returncode}{': ' + told[-1] if told else ''}")
+        if ran.status in (3, 4, 8):
+            raise NoGrid(cause_of(ran.text.strip()) or str(fault_of("knot", ["grid"], ran)))
+        if ran.status < 0 or ran.status in WITHOUT_ANSWER:
+            raise fault_of("knot", ["grid"], ran)
+        told = ran.told.strip().splitlines()
+        raise NoProgram(f"{program} grid ended with status {ran.status}{': ' + told[-1] if told else ''}")

@@ -8,9 +8,11 @@ from typing import Any, List, Optional, Union
 from xml.sax.saxutils import escape
 
 from . import certificates
-from .diagrams import (BadText, Lines, covers, ends, grid_of, is_colouring, move_text, number_of, read_diagram, read_moves, read_quandle,
-                       read_quandles, walk)
+from .colourings import is_colouring, walk
+from .diagrams import covers, ends, grid_of
+from .faults import BadText
 from .moves import Illegal, carried, made
+from .texts import Lines, move_text, number_of, read_diagram, read_moves, read_quandle, read_quandles
 
 # Sixteen colours that stay apart on white. Of more colours the next sixteen have them again; the numbers below the columns say which.
 PALETTE = ("#1f5fbf", "#d62728", "#1a8a34", "#e08a00", "#7b3fb0", "#00949e", "#c2388f", "#6b4a2b",
@@ -36,7 +38,7 @@ def read_frames(text):
         if lines.peek() == "certificate":
             line, tokens = lines.take("the line 'certificate'")
             if tokens[1:] == ["3"]:
-                return read_third(lines, grid, second), True
+                return read_third_pair(lines, grid, second), True
             if tokens[1:] != ["2"]:
                 raise BadText("the line 'certificate 2' or 'certificate 3' is due", line)
         if lines.peek() == "different":
@@ -86,7 +88,7 @@ def read_different(lines, first, second):
     return frames
 
 
-def read_third(lines, first, second):
+def read_third_pair(lines, first, second):
     """Both diagrams of a verdict of version 3, with their numbers of colourings, weights or linking numbers."""
     verdict = certificates.read_third(lines)
     lines.done()
@@ -125,7 +127,7 @@ def number(value):
     return f"{value:.2f}".rstrip("0").rstrip(".")
 
 
-def line_of(x1, y1, x2, y2, ink):
+def segment(x1, y1, x2, y2, ink):
     return f'<path d="M{number(x1)} {number(y1)} L{number(x2)} {number(y2)}" stroke="{ink}"/>'
 
 
@@ -163,7 +165,7 @@ class Drawing:
             left, right = ends(self.grid, row)
             pieces = self.pieces(row)
             for start, end, colour in pieces:
-                lines.append(line_of(self.x(start) + (gap if start != left else 0), self.y(row),
+                lines.append(segment(self.x(start) + (gap if start != left else 0), self.y(row),
                                      self.x(end) - (gap if end != right else 0), self.y(row), self.ink(colour)))
             # Halfway between two columns no strand crosses.
             middle = (left + right) // 2
@@ -172,7 +174,7 @@ class Drawing:
             arrows.append(arrow(self.x(middle + 0.5), self.y(row), (1 if to_the_right else -1, 0), 0.13 * self.cell, self.ink(colour)))
         for column, (x_row, o_row) in enumerate(zip(*self.grid)):
             ink = self.column_ink(column)
-            lines.append(line_of(self.x(column), self.y(x_row), self.x(column), self.y(o_row), ink))
+            lines.append(segment(self.x(column), self.y(x_row), self.x(column), self.y(o_row), ink))
             middle = (x_row + o_row) // 2
             arrows.append(arrow(self.x(column), self.y(middle + 0.5), (0, -1 if x_row < o_row else 1), 0.13 * self.cell, ink))
             if self.colours:

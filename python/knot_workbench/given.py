@@ -3,13 +3,16 @@ import re
 from typing import Any
 
 from .answers import reading
-from .code_texts import PASSAGES, are_numbers, kind_of_text, lists_in, read_text, unwrapped
-from .codes import Code, rows_text
-from .diagrams import Braid, Diagram, Grid, Lines, braid_fault, read_diagram, read_grid
+from .codes import Code
+from .codes.kinds import kind_of_text
+from .codes.planar import planar_text
+from .codes.reading import code_in, read_text, without_comments
+from .diagrams import Braid, Diagram, Grid
 from .faults import BadDiagram, OverLimit
 from .links import code_of_link
 from .programs import answered
-from .table_entries import CODE_LEAST, Conventions, are_pairs, code_of_numbers, diagram_of
+from .tables.entries import Conventions, diagram_of
+from .texts import Lines, braid_fault, read_diagram, read_grid
 
 WORD = re.compile(r"\s*[+-]?[0-9]+(?:[\s,]+[+-]?[0-9]+)*\s*")
 
@@ -46,7 +49,7 @@ def diagram(given: Any) -> Diagram:
         return diagram_of_text(given)
     code = code_of_link(given)
     if code is not None:
-        return grid_by(rows_text(*code))
+        return grid_by(planar_text(*code))
     raise BadDiagram(f"{given!r:.40} is no diagram: give a Grid, a Braid, a text, or a link of Regina, SnapPy or Sage; lists go through "
                      "Braid, Grid, from_pd, from_dt or from_gauss")
 
@@ -63,7 +66,8 @@ def diagram_of_text(text: str) -> Diagram:
         found = read_diagram(lines)
         lines.done()
         return found
-    if first == "crossings" or kind_of_text(text)[0] or PASSAGES.fullmatch(text):
+    text = without_comments(text)
+    if kind_of_text(text)[0]:
         return grid_by(read_text(text).text)
     if text.lstrip()[:1] in "[{(":
         return diagram_of_list(text)
@@ -73,9 +77,7 @@ def diagram_of_text(text: str) -> Diagram:
 
 def diagram_of_list(text: str) -> Diagram:
     """The diagram of a list in brackets: a code by its numbers, an arc presentation, or the letters of a braid. Raises BadCode, EntryError."""
-    items = unwrapped(lists_in(text))
-    is_word = are_numbers(items) and code_of_numbers(items, CODE_LEAST) is None or len(items) == 2 and isinstance(items[0], int)
-    numbers = [number for item in items for number in item] if are_pairs(items) else []
-    if is_word or numbers and all(numbers.count(number) == 2 for number in numbers):
-        return read_diagram(Lines(diagram_of(text, None, Conventions("columns", False, False, None, None)).text))
-    return grid_by(read_text(text).text)
+    code = code_in(text, "code")
+    if code:
+        return grid_by(code.text)
+    return read_diagram(Lines(diagram_of(text, None, Conventions("columns", False, False, "braid", None)).text))

@@ -12,10 +12,10 @@ from .certificates import Certificate, Equal, Evidence
 from .diagrams import Diagram, Grid, Move, grid_of
 from .given import diagram as diagram_given
 from .jobs import certificate_of, simplify
-from .knot_rows import row_of
-from .knot_tables import UNKNOT, KnotTable, Parts, name_of
 from .moves import tidied
 from .programs import answered
+from .tables.knots import UNKNOT, KnotTable, Parts, name_of
+from .tables.numbers import row_of
 
 # The budgets of `simplify`, the first for every diagram, the second where no short walk joined one.
 FIRST_BUDGET, LATER_BUDGET = 1_000, 20_000
@@ -66,7 +66,7 @@ def table_of(table: Union[KnotTable, str, None]) -> KnotTable:
         return _tables[table]
 
 
-def components_of(grid: Grid) -> int:
+def components_of_grid(grid: Grid) -> int:
     """How many components a grid diagram has."""
     ahead, count = set(range(len(grid.xs))), 0
     column_of = {row: column for column, row in enumerate(grid.xs)}
@@ -88,7 +88,7 @@ def identify(diagram: Any, table: Union[KnotTable, str, None] = None, *, first: 
     Rejected where the checker doesn't accept what was found."""
     diagram = diagram_given(diagram)
     grid = grid_of(diagram)
-    components = components_of(grid)
+    components = components_of_grid(grid)
     if components > 1:
         return Identified(components, None, None, ())
     known = table_of(table)

@@ -7,17 +7,20 @@ import os
 from typing import Any, Iterable, List, NamedTuple, Optional, Sequence, Tuple, Union
 
 from .answers import Answer, Compared, Least, Simplified, TooWide, reading
-from .certificates import Certificate, Unknown, numbers_behind, read_list, read_verdict
+from .certificates import Certificate, Unknown, numbers_behind, read_colour_list, read_verdict
 from .cocycles import MAX_MODULUS, Cocycle, ShadowCocycle, cocycle_fault, read_shadow
-from .code_texts import kind_of_text, lists_in, of_signed, plain, read_lists, read_text, unwrapped, unwrapped_components
-from .codes import Code, read_code, rows_text
-from .diagrams import (MAX_LARGE_ORDER, Braid, Diagram, Grid, Lines, Move, Quandle, Rows, diagram_text, grid_of, move_of, move_text, quandle_fault, quandle_of,
-                       read_grid, read_quandle, wholes)
+from .codes import Code, read_code
+from .codes.brackets import plain_lists
+from .codes.planar import planar_text
+from .codes.reading import check_rows, read, read_signed, read_text
+from .diagrams import Braid, Diagram, Grid, Move, Rows, diagram_text, grid_of, wholes
 from .faults import BadCode, BadText, Fault, NoJob, Wide
 from .given import diagram as diagram_given
 from .given import grid_by
 from .programs import answered, default_cocycles, path_of
+from .quandles import MAX_LARGE_ORDER, Quandle, quandle_fault, quandle_of
 from .ready import ready, ready_file, ready_names
+from .texts import Lines, move_of, move_text, read_grid, read_quandle
 
 # A quandle, its name as in a line `quandle`, or the rows of its table.
 QuandleLike = Union[Quandle, str, Sequence[Sequence[int]]]
@@ -111,7 +114,7 @@ def value_by(job: str, text: str, words: Sequence[str] = ()) -> Any:
     return Answer(job, 0, answered("knot", [job, *words], text).text).value()
 
 
-def lines_of(job: str, text: str, words: Sequence[str] = ()) -> Lines:
+def job_lines(job: str, text: str, words: Sequence[str] = ()) -> Lines:
     """The lines of what a job of knot writes of a text."""
     return Lines(answered("knot", [job, *words], text).text)
 
@@ -181,7 +184,7 @@ class Colourings(NamedTuple):
 def colour(diagram: DiagramLike, *quandles: QuandleLike) -> List[Colourings]:
     """All colourings by each quandle, by `knot colour`; without quandles by each of the built-in list."""
     diagram = diagram_given(diagram)
-    lines = lines_of("colour", diagram_text(diagram) + "".join(quandle(one).text for one in quandles))
+    lines = job_lines("colour", diagram_text(diagram) + "".join(quandle(one).text for one in quandles))
     found = []
     with reading("knot colour"):
         while lines.peek() == "quandle":
@@ -189,7 +192,7 @@ def colour(diagram: DiagramLike, *quandles: QuandleLike) -> List[Colourings]:
             if lines.peek() == "wide":
                 found.append(Colourings(by, None, numbers_behind(lines, "wide", 1)[0]))
             else:
-                found.append(Colourings(by, read_list(lines, len(grid_of(diagram).xs), by.order), None))
+                found.append(Colourings(by, read_colour_list(lines, len(grid_of(diagram).xs), by.order), None))
         lines.done()
     return found
 
@@ -213,7 +216,7 @@ def numbers(diagram: DiagramLike, *blocks: Union[QuandleLike, Tuple[QuandleLike,
             block = by if weight is None else (by, weight)
         is_weighed = isinstance(block, tuple) and len(block) == 2 and isinstance(block[1], (Cocycle, ShadowCocycle))
         text += quandle(block[0]).text + block[1].text if is_weighed else quandle(block).text  # type: ignore[arg-type, union-attr]
-    lines = lines_of("numbers", text)
+    lines = job_lines("numbers", text)
     found = []
     with reading("knot numbers"):
         while lines.peek() == "quandle":
@@ -274,7 +277,7 @@ def replay(diagram: DiagramLike, moves: Sequence[Move], by: Optional[QuandleLike
         raise Fault("a quandle and colours go together")
     if by is not None and colours is not None:
         text += quandle(by).text + f"colours {' '.join(map(str, wholes(colours, 'colours')))}\n"
-    lines = lines_of("replay", text)
+    lines = job_lines("replay", text)
     with reading("knot replay"):
         grid = read_grid(lines)
         return Replayed(grid, numbers_behind(lines, "colours") if colours is not None else None)
@@ -303,7 +306,7 @@ def weights(first: DiagramLike, second: DiagramLike, by: QuandleLike, with_cocyc
 
 # ---- codes of other programs
 
-def from_pd(rows: Union[str, Iterable[Sequence[int]]], loops: int = 0) -> Grid:
+def from_pd(rows: Union[str, Code, Iterable[Sequence[int]]], loops: int = 0) -> Grid:
     """A grid diagram of a planar diagram code, by `knot grid`: of its rows, or of a text, as "PD[X[4,2,5,1], ..]" or "[[4,2,5,1], ..]". A row
     has the four edges of a crossing counterclockwise, from the one on which the strand below comes, as KnotTheory, Regina and SnapPy have
     them; edges may have any numbers from 0 on, and `loops` counts components without a crossing. Raises BadCode where a text or the lists are
@@ -313,31 +316,27 @@ def from_pd(rows: Union[str, Iterable[Sequence[int]]], loops: int = 0) -> Grid:
         return grid_by(read_text(rows, "PD").text)
     if isinstance(rows, Code):
         return grid_by(rows.text)
-    found = plain(rows)
+    found = plain_lists(rows)
     if not isinstance(found, list):
         raise BadCode("the rows of a planar diagram code are due, or its text")
     if not hasattr(loops, "__index__") or loops < 0:
         raise BadCode(f"{loops!r:.30} is no number of loops")
-    return grid_by(rows_text(found, loops))
+    check_rows(found)
+    return grid_by(planar_text(found, int(loops)))
 
 
 def from_dt(code_of_knot: Union[str, Iterable[Any]]) -> Grid:
     """A grid diagram of a DT code: of a text as "DT[4,6,2]", "DT:[(4,6,2)]" or "DT[cacbca]", of a list of even numbers, or for a link of a list for
     each component. The mirror image has the same code, and so have diagrams in which a part of a sum is mirrored: which of these comes,
     the code doesn't say. Raises BadCode where it is none, and as `from_pd`."""
-    return grid_by((read_text(code_of_knot, "DT") if isinstance(code_of_knot, str) else read_lists(code_of_knot, "DT")).text)
+    return grid_by(read(code_of_knot, "DT").text)
 
 
 def from_gauss(code_of_knot: Union[str, Iterable[Any]], signs: Optional[Sequence[int]] = None) -> Grid:
     """A grid diagram of a Gauss code: of a text as "GaussCode[-1,2,-3,1,-2,3]" or "O1+U2+O3+U1+O2+U3+", of a list of numbers of crossings, negative
     where the strand passes under, or for a link of a list for each component. `signs` has the sign of each crossing, 1 or -1, in the order of
     their numbers. Without signs the mirror image has the same code, as of `from_dt`. Raises BadCode where it is none, and as `from_pd`."""
-    if signs is None:
-        return grid_by((read_text(code_of_knot, "Gauss") if isinstance(code_of_knot, str) else read_lists(code_of_knot, "Gauss")).text)
-    lists = lists_in(kind_of_text(code_of_knot)[1]) if isinstance(code_of_knot, str) else plain(code_of_knot)
-    if not isinstance(lists, list):
-        raise BadCode("a Gauss code has a list of whole numbers for each component")
-    return grid_by(of_signed(unwrapped_components(unwrapped(lists)), plain(signs)).text)
+    return grid_by((read(code_of_knot, "Gauss") if signs is None else read_signed(code_of_knot, signs)).text)
 
 
 def from_code(code_of_link: Code) -> Grid:

@@ -4,8 +4,9 @@ Nothing here is proved: `check` of the program makes the moves itself.
 """
 from typing import List, Sequence
 
-from .diagrams import Grid, MAX_SIZE, Move, Quandle, as_grid, ends, is_up
+from .diagrams import MAX_SIZE, Grid, Move, as_grid, ends, is_up
 from .faults import Illegal
+from .quandles import Quandle
 
 
 def made(grid: Grid, move: Move) -> Grid:

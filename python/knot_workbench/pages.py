@@ -10,9 +10,11 @@ from typing import NamedTuple, Optional, Union
 
 from . import certificates, cocycles, drawing, jobs, weighing
 from .certificates import Certificate
-from .diagrams import (MAX_COLOURINGS, BadText, Lines, bottoms, built_in_list, diagram_text, fits, grid_of, is_colouring, read_diagram, read_moves,
-                       read_quandle, read_quandles)
-from .faults import Fault, NoJob
+from .colourings import MAX_COLOURINGS, fits, is_colouring
+from .diagrams import bottoms, diagram_text, grid_of
+from .faults import BadText, Fault, NoJob
+from .quandles import built_in_list
+from .texts import Lines, read_diagram, read_moves, read_quandle, read_quandles
 
 HERE = os.path.dirname(os.path.realpath(__file__))
 
@@ -83,7 +85,7 @@ def read_page(text, choices):
     frames = drawing.along(named[0][2], list(verdict.moves), quandle, colours)
     if frames[-1].grid != named[1][2]:
         raise BadText("the moves don't lead to the second diagram")
-    return Page("equal", named, drawing.chosen(limited(frames, choices), choices.frames, choices.no_shifts), quandle)
+    return Page("equal", named, drawing.chosen(frames_allowed(frames, choices), choices.frames, choices.no_shifts), quandle)
 
 
 def refuse_alike(verdict):
@@ -109,7 +111,7 @@ def walk_of(lines, diagram, choices):
     if not quandle:
         quandle, colours = colours_by(choices, grid)
     frames = drawing.along(grid, moves, quandle, colours)
-    return Page("moves", [("the diagram", diagram, grid)], drawing.chosen(limited(frames, choices), choices.frames, choices.no_shifts), quandle)
+    return Page("moves", [("the diagram", diagram, grid)], drawing.chosen(frames_allowed(frames, choices), choices.frames, choices.no_shifts), quandle)
 
 
 def weighed(lines, named, quandles):
@@ -150,7 +152,7 @@ def some_colouring(grid, quandles):
     return None, None
 
 
-def limited(frames, choices):
+def frames_allowed(frames, choices):
     """The frames, where a page takes so many."""
     if len(frames) > MOST_FRAMES and not choices.frames:
         raise Fault(f"there are {len(frames) - 1} moves, and a page takes {MOST_FRAMES:,} frames: choose some by frames, as 0,{len(frames) // 1000},..")
@@ -211,7 +213,7 @@ def sentence_of(page, checked):
     if page.kind == "different":
         return counted_apart(page, *map(len, page.lists)) + ruled(checked, "Whether both lists are complete")
     if page.kind == "weights":
-        rows = [counts_of(listed, page.cocycle.modulus) for listed in page.lists]
+        rows = [weight_counts(listed, page.cocycle.modulus) for listed in page.lists]
         said = "These two differ: moves keep these numbers, so no moves join them." if rows[0] != rows[1] else "The numbers agree, which says nothing of the two."
         return f"<p>{said}</p>" + weights_table(page, rows)
     if page.kind == "numbers":
@@ -268,12 +270,12 @@ def weights_table(page, rows):
             f"</caption><tr><th scope=\"col\">weight</th>{heads}</tr>{cells}</table></div>")
 
 
-def counts_of(listed, modulus):
+def weight_counts(listed, modulus):
     """How many colourings have each weight."""
     return [sum(weight == wanted for _, weight in listed) for wanted in range(modulus)]
 
 
-def table_of(square, caption, corner):
+def square_table(square, caption, corner):
     """A square of numbers as a table."""
     heads = "".join(f"<th scope=\"col\">{place}</th>" for place in range(len(square)))
     rows = "".join(f"<tr><th scope=\"row\">{place}</th>{''.join(f'<td>{value}</td>' for value in row)}</tr>" for place, row in enumerate(square))
@@ -319,10 +321,10 @@ def walk_section(page):
 def cocycle_part(cocycle):
     """A cocycle's table; a shadow cocycle's is one for each region."""
     if not isinstance(cocycle, cocycles.ShadowCocycle):
-        return table_of(cocycle.values, f"The cocycle mod {cocycle.modulus}: φ(x, y), line x and column y", "φ")
+        return square_table(cocycle.values, f"The cocycle mod {cocycle.modulus}: φ(x, y), line x and column y", "φ")
     if cocycle.values is None:
         return f"<p>The shadow cocycle is that of Mochizuki's formula, mod {cocycle.modulus}.</p>"
-    return "".join(table_of(square, f"The shadow cocycle mod {cocycle.modulus}: θ({region}, x, y), line x and column y", "θ")
+    return "".join(square_table(square, f"The shadow cocycle mod {cocycle.modulus}: θ({region}, x, y), line x and column y", "θ")
                    for region, square in enumerate(cocycle.values))
 
 
@@ -344,12 +346,12 @@ def page_text(page, title, checked, text):
             parts.append(f"<p>The colours are a colouring by the quandle {escape(page.quandle.name)}, carried along the moves; their numbers are below "
                          "the columns.</p>")
     if page.quandle:
-        parts.append(table_of(page.quandle.over, f"The quandle {escape(page.quandle.name)}: x ▷ y, line x and column y", "▷"))
+        parts.append(square_table(page.quandle.over, f"The quandle {escape(page.quandle.name)}: x ▷ y, line x and column y", "▷"))
     if page.cocycle:
         parts.append(cocycle_part(page.cocycle))
     ruler = {"weights": "knot weights", "moves": "knot replay"}.get(page.kind, "knot check")
     data = json.dumps(data_of(page), separators=(",", ":")).replace("<", "\\u003c")
-    style, script = (beside(f"page.{kind}") for kind in ("css", "js"))
+    style, script = (text_beside(f"page.{kind}") for kind in ("css", "js"))
     return f"""<!DOCTYPE html>
 <html lang="en">
 <head>
@@ -379,7 +381,7 @@ def title_of(page):
     return titles.get(page.kind, "Two diagrams that differ")
 
 
-def beside(name):
+def text_beside(name):
     """The text of a file that lies beside this one."""
     with open(os.path.join(HERE, name), encoding="utf-8") as source:
         return source.read()

@@ -6,7 +6,7 @@ from typing import Any, Callable, Dict, List, NamedTuple, Optional, Sequence, Tu
 from .alexander import PRIME, determinant
 from .diagrams import Grid, covers, crossings, ends, grid_of, is_up
 from .given import diagram as diagram_given
-from .identifying import components_of
+from .identifying import components_of_grid
 from .signatures import signature
 
 # As many columns may be side by side in a row where the Jones polynomial is worked out: the work grows fourfold with two more.
@@ -40,12 +40,12 @@ class Invariants(NamedTuple):
     @property
     def alexander_text(self) -> str:
         """The Alexander polynomial as people write it, from the constant."""
-        return text_of((2 * power, coefficient) for power, coefficient in enumerate(self.alexander))
+        return terms_text((2 * power, coefficient) for power, coefficient in enumerate(self.alexander))
 
     @property
     def jones_text(self) -> Optional[str]:
         """The Jones polynomial as people write it, or None."""
-        return None if self.jones is None else text_of(self.jones)
+        return None if self.jones is None else terms_text(self.jones)
 
 
 def invariants(of: Any) -> Invariants:
@@ -53,10 +53,10 @@ def invariants(of: Any) -> Invariants:
     grid = grid_of(diagram_given(of))
     alexander = alexander_polynomial(grid)
     at_minus_one = sum(coefficient * (-1) ** power for power, coefficient in enumerate(alexander))
-    return Invariants(components_of(grid), alexander, abs(at_minus_one), jones_polynomial(grid), signature(grid))
+    return Invariants(components_of_grid(grid), alexander, abs(at_minus_one), jones_polynomial(grid), signature(grid))
 
 
-def text_of(terms: Any) -> str:
+def terms_text(terms: Any) -> str:
     """A sum of coefficients times powers, which are given by twice their exponents."""
     text = ""
     for twice, coefficient in terms:
@@ -149,7 +149,7 @@ def above(grid: Grid, row: int, states: Joined) -> Joined:
         first += 1
     for place in range(first, first + count):
         states = mixed(states, place, -1, 1)
-    return states if right_begins else mapped(states, lambda joined: ended(joined, first + count))
+    return states if right_begins else mapped(states, lambda joined: ends_joined(joined, first + count))
 
 
 def begun(joined: Tuple[int, ...], place: int) -> Tuple[int, ...]:
@@ -158,7 +158,7 @@ def begun(joined: Tuple[int, ...], place: int) -> Tuple[int, ...]:
     return (*moved[:place], place + 1, place, *moved[place:])
 
 
-def ended(joined: Tuple[int, ...], place: int) -> Tuple[Tuple[int, ...], bool]:
+def ends_joined(joined: Tuple[int, ...], place: int) -> Tuple[Tuple[int, ...], bool]:
     """Without the strands at a place and the next one, which end in one another, and whether that closes a loop."""
     one, two = joined[place], joined[place + 1]
     rest = list(joined)
@@ -172,7 +172,7 @@ def mapped(states: Joined, change: Callable[[Tuple[int, ...]], Tuple[Tuple[int, 
     for joined, sums in states.items():
         after, closes = change(joined)
         for by, times in (LOOP if closes else {0: 1}).items():
-            add(found, after, sums, by, times)
+            add_shifted(found, after, sums, by, times)
     return found
 
 
@@ -181,14 +181,14 @@ def mixed(states: Joined, place: int, stays: int, turns: int) -> Joined:
     in one another, and two others begin."""
     found: Joined = {}
     for joined, sums in states.items():
-        add(found, joined, sums, stays, 1)
-    turned = mapped(states, lambda joined: ended(joined, place))
+        add_shifted(found, joined, sums, stays, 1)
+    turned = mapped(states, lambda joined: ends_joined(joined, place))
     for joined, sums in turned.items():
-        add(found, begun(joined, place), sums, turns, 1)
+        add_shifted(found, begun(joined, place), sums, turns, 1)
     return found
 
 
-def add(found: Joined, joined: Tuple[int, ...], sums: Laurent, by: int, times: int) -> None:
+def add_shifted(found: Joined, joined: Tuple[int, ...], sums: Laurent, by: int, times: int) -> None:
     """Adds a polynomial times a power of A and a number."""
     into = found.setdefault(joined, {})
     for power, coefficient in sums.items():

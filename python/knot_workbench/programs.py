@@ -3,8 +3,11 @@ import os
 import re
 import shutil
 import subprocess
+import tempfile
 import threading
-from typing import Dict, List, NamedTuple, Optional, Sequence, Set
+import time
+from contextlib import contextmanager, suppress
+from typing import IO, Dict, Iterator, List, NamedTuple, Optional, Sequence, Set, Tuple
 
 from .faults import Failed, Fault, Malformed, NoJob, NoProgram, OverLimit, Rejected, TimedOut
 
@@ -18,18 +21,139 @@ COCYCLES = os.path.join("quandles", "weights", "list.txt")
 
 _given: Dict[str, str] = {}
 
-# The programs that run, and whether `end_calls` was called.
-_running: "Set[subprocess.Popen[bytes]]" = set()
-_ended = threading.Event()
-_lock = threading.Lock()
+# Why a call was ended from here: all were stopped, it took too long, or it wrote too much.
+STOPPED, SECONDS, BYTES = "stopped", "seconds", "bytes"
+
+# The status of a program that is killed.
+KILLED = -9
+
+# How often a call with a limit is looked at, in seconds.
+LOOK = 0.05
 
 
 class Ran(NamedTuple):
-    """How a call ended: its status, standard output, and standard error."""
+    """How a call ended: its status, what it wrote on standard output and on standard error, and the seconds that it took. Of one that was ended
+    from here, or that wasn't begun any more, the status is that of a program that is killed, and `cut` has the reason."""
 
     status: int
-    text: str
-    told: str
+    body: bytes = b""
+    said: bytes = b""
+    seconds: float = 0.0
+    cut: str = ""
+
+    @property
+    def text(self) -> str:
+        """Standard output as a text."""
+        return self.body.decode("utf-8", "replace")
+
+    @property
+    def told(self) -> str:
+        """Standard error as a text."""
+        return self.said.decode("utf-8", "replace")
+
+
+class Caller:
+    """Calls programs. What runs is ended where an exception, as that of a signal, leaves its call, and where all is stopped."""
+
+    def __init__(self) -> None:
+        # What handles a signal may stop a caller at which the same thread is at work.
+        self._lock = threading.RLock()
+        self._running: "Set[subprocess.Popen[bytes]]" = set()
+        self._is_stopped = False
+
+    def run(self, call: Sequence[str], given: bytes, *, seconds: Optional[float] = None, most: Optional[int] = None, is_shown: bool = False) -> Ran:
+        """Runs a program, by its path and its words, with these bytes as its input: for so many seconds, and until it has written more than `most`
+        bytes. What it says on standard error is kept, or passed on where `is_shown`. Raises OSError where it can't be begun.
+
+        Input and output are files without a name, of which a signal leaves nothing."""
+        try:
+            with stream_file() as source, stream_file() as sink, stream_file() as errors:
+                source.write(given)
+                source.seek(0)
+                began = time.monotonic()
+                status, cut = self._ended(call, (source, sink, None if is_shown else errors), seconds, most)
+                took = time.monotonic() - began
+                return Ran(KILLED, seconds=took, cut=cut) if cut else Ran(status, content_of(sink), content_of(errors), took)
+        except OSError as error:
+            error.filename = error.filename or call[0]
+            raise
+
+    def _ended(self, call: Sequence[str], streams: "Tuple[Optional[IO[bytes]], ...]", seconds: Optional[float],
+               most: Optional[int]) -> Tuple[int, str]:
+        """The status of a call with these streams, and why it was ended from here, or nothing."""
+        with self._lock:
+            if self._is_stopped:
+                return KILLED, STOPPED
+            process = subprocess.Popen(call, stdin=streams[0], stdout=streams[1], stderr=streams[2])
+            self._running.add(process)
+        try:
+            with limited(process, streams[1:], seconds, most) as cut:
+                status = process.wait()
+        except BaseException:
+            process.kill()
+            process.wait()
+            raise
+        finally:
+            with self._lock:
+                self._running.discard(process)
+        return status, STOPPED if self._is_stopped else BYTES if is_over(streams[1:], most) else "".join(cut)
+
+    def stop(self) -> None:
+        """Ends what runs; later calls begin nothing."""
+        with self._lock:
+            self._is_stopped = True
+            for process in self._running:
+                # It may have ended just now.
+                with suppress(ProcessLookupError):
+                    process.kill()
+
+
+@contextmanager
+def limited(process: "subprocess.Popen[bytes]", streams: "Sequence[Optional[IO[bytes]]]", seconds: Optional[float],
+            most: Optional[int]) -> Iterator[List[str]]:
+    """Ends a process meanwhile where it takes too long or writes too much: a list that gets the reason."""
+    found: List[str] = []
+    if seconds is None and most is None:
+        yield found
+        return
+    has_ended, end = threading.Event(), None if seconds is None else time.monotonic() + seconds
+
+    def watch() -> None:
+        while not has_ended.wait(LOOK if end is None else min(LOOK, max(0.0, end - time.monotonic()))):
+            if is_over(streams, most) or end is not None and time.monotonic() >= end:
+                found.append(BYTES if is_over(streams, most) else SECONDS)
+                process.kill()
+                return
+
+    watcher = threading.Thread(target=watch, daemon=True)
+    watcher.start()
+    try:
+        yield found
+    finally:
+        has_ended.set()
+        watcher.join()
+
+
+def is_over(streams: "Sequence[Optional[IO[bytes]]]", most: Optional[int]) -> bool:
+    """Whether one of these files has more than so many bytes."""
+    return most is not None and any(stream is not None and os.fstat(stream.fileno()).st_size > most for stream in streams)
+
+
+def stream_file() -> "IO[bytes]":
+    """A file without a name: in memory, where the system has such files."""
+    if hasattr(os, "memfd_create"):
+        return os.fdopen(os.memfd_create("stream"), "w+b")
+    return tempfile.TemporaryFile()
+
+
+def content_of(file: "IO[bytes]") -> bytes:
+    """All bytes of an open file."""
+    file.seek(0)
+    return file.read()
+
+
+# What makes the calls of the module.
+CALLER = Caller()
 
 
 def use(knot: Optional[str] = None, seek: Optional[str] = None) -> None:
@@ -89,42 +213,28 @@ def homes_of_seek(path: str) -> List[str]:
     return [place for place, mark in marks.items() if name == "seek" and os.path.isfile(mark)]
 
 
-def run(name: str, words: Sequence[str], text: str, timeout: Optional[float] = None) -> Ran:
+def run_program(name: str, words: Sequence[str], text: str, timeout: Optional[float] = None) -> Ran:
     """Runs a program on a text, and waits so many seconds at most. Raises NoProgram, TimedOut."""
     path = path_of(name)
     if timeout is not None and not isinstance(timeout, (int, float)):
         raise NoJob(f"timeout takes a number of seconds, and {timeout!r:.30} is none")
     try:
-        with subprocess.Popen([path, *words], stdin=subprocess.PIPE, stdout=subprocess.PIPE, stderr=subprocess.PIPE) as process:
-            with _lock:
-                _running.add(process)
-            try:
-                if _ended.is_set():
-                    process.kill()
-                body, told = process.communicate(text.encode(), timeout)
-            finally:
-                with _lock:
-                    _running.discard(process)
-                if process.returncode is None:
-                    process.kill()
-    except subprocess.TimeoutExpired:
-        raise TimedOut(f"{name} {' '.join(words)}: ended after {timeout:g} seconds") from None
+        ran = CALLER.run([path, *words], text.encode(), seconds=timeout)
     except OSError as error:
         raise NoProgram(f"{path}: {error.strerror}") from None
-    return Ran(process.returncode, body.decode("utf-8", "replace"), told.decode("utf-8", "replace"))
+    if ran.cut == SECONDS:
+        raise TimedOut(f"{name} {' '.join(words)}: ended after {timeout:g} seconds")
+    return ran
 
 
 def end_calls() -> None:
-    """Ends the programs that run for other threads, and each that they start later. Their calls raise Failed."""
-    _ended.set()
-    with _lock:
-        for process in _running:
-            process.kill()
+    """Ends the programs that run for other threads, and lets no other one begin. Their calls raise Failed."""
+    CALLER.stop()
 
 
 def answered(name: str, words: Sequence[str], text: str, also: Sequence[int] = (), timeout: Optional[float] = None) -> Ran:
     """A call that ends with status 0 or one of those in `also`. Raises a named error for each other status."""
-    ran = run(name, words, text, timeout)
+    ran = run_program(name, words, text, timeout)
     if ran.status == 0 or ran.status in also:
         return ran
     raise fault_of(name, words, ran)

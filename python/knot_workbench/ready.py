@@ -3,17 +3,19 @@ import os
 import re
 from typing import Any, Optional, Tuple
 
-from .diagrams import MAX_LARGE_ORDER, BadText, Lines, Quandle, quandle_named
-from .knot_tables import data_folder
+from .faults import BadText
+from .quandles import MAX_LARGE_ORDER, Quandle
+from .tables.knots import data_folder
+from .texts import Lines, quandle_named
 
-NAME = re.compile("[A-Za-z][A-Za-z0-9_]*")
+NAME_FORM = re.compile("[A-Za-z][A-Za-z0-9_]*")
 MOCHIZUKI = re.compile(r"mochizuki ([0-9]{1,2})")
 
 
 def ready_file(name: str) -> Optional[str]:
     """The path of the file of this name, or None."""
     folder = data_folder("quandles")
-    if folder is None or not NAME.fullmatch(name):
+    if folder is None or not NAME_FORM.fullmatch(name):
         return None
     paths = (os.path.join(folder, below, f"{name}.txt") for below in ("weights", "larger"))
     return next((path for path in paths if name != "list" and os.path.isfile(path)), None)
@@ -24,7 +26,7 @@ def ready_names() -> list:
     folder = data_folder("quandles")
     found = []
     for below in ("weights", "larger") if folder else ():
-        found += [name[:-4] for name in sorted(os.listdir(os.path.join(folder or "", below))) if NAME.fullmatch(name[:-4]) and name != "list.txt"]
+        found += [name[:-4] for name in sorted(os.listdir(os.path.join(folder or "", below))) if NAME_FORM.fullmatch(name[:-4]) and name != "list.txt"]
     return found
 
 

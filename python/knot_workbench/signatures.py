@@ -1,6 +1,6 @@
 """The signature of a link, from a grid: that of the form of Gordon and Litherland (1978) on the surface of the dark regions, with its correction."""
 from fractions import Fraction
-from typing import Dict, List, Tuple
+from typing import Dict, List, Tuple, Union
 
 from .diagrams import Grid, crossings, ends, is_up
 
@@ -52,7 +52,7 @@ def regions(grid: Grid) -> Tuple[List[List[int]], List[List[bool]]]:
     return [[numbers[top((line, cell))] for cell in range(size + 1)] for line in range(size + 1)], is_dark
 
 
-def add(form: Form, row: int, column: int, entry: int) -> None:
+def add(form: Form, row: int, column: int, entry: Union[int, Fraction]) -> None:
     """Adds to an entry of a form."""
     into = form.setdefault(row, {})
     into[column] = into.get(column, Fraction(0)) + entry

@@ -10,8 +10,8 @@ from .certificates import put_whole
 from .diagrams import diagram_text
 from .faults import BadDiagram, Failed, NoFile, NoJob
 from .given import diagram as diagram_given
-from .knot_tables import data_folder
 from .programs import path_of
+from .tables.knots import data_folder
 
 # What the script says of how far it is.
 PROGRESS = re.compile(r"part [0-9]+ of [0-9]+, ")

@@ -1,16 +1,17 @@
 """Diagrams from other programs' links, and from tables of knots."""
 import os
 from types import SimpleNamespace
-from typing import Any, List, Optional, Tuple, Union
+from typing import Any, List, Optional, Union
 
 from .code_grids import Grids
-from .diagrams import Diagram, Grid, Lines, read_diagram
+from .diagrams import Grid
 from .faults import Fault
 from .identifying import table_of
 from .jobs import from_pd
 from .links import code_of_regina, code_of_sage, code_of_snappy
-from .table_entries import Conventions, EntryError, diagram_of
-from .table_rows import Table, TableError
+from .tables.entries import Conventions, EntryError, diagram_of
+from .tables.rows import Table, TableError
+from .texts import Lines, read_diagram
 
 
 def from_sage(link: Any) -> Grid:
@@ -33,12 +34,12 @@ def from_table(path: Union[str, "os.PathLike[str]"], diagram: Optional[str] = No
                has_header: bool = True, skip_rows: int = 0, faults: Optional[List[Fault]] = None) -> Any:
     """The names and diagrams of a table of knots, a list of pairs; or a Grid of one knot by its name, as `from_table("8_19")`.
 
-    A table is a CSV or TSV file whose column `diagram` has braid words, arc presentations, PD or DT codes. Where no column is named, the only
+    A table is a CSV or TSV file whose column `diagram` has braid words, arc presentations, or PD, DT or Gauss codes. Where no column is named, the only
     one counts that has diagrams by its title. The names are in the column `name`: by default the one of this title, or the first where there is
     no header. The name of one knot is that of the table of prime knots to twelve crossings, as "10_132", "11n34", "3_1 mirrored" or "3_1 # 4_1":
     what is neither a path nor named with a column is taken for one.
 
-    What an entry is, its column's title, its brackets or `reads` decide: "braid", "PD" or "DT". Codes are drawn by `knot grid`.
+    What an entry is, its column's title, its brackets or `reads` decide: "braid", "PD", "DT" or "Gauss". Codes are drawn by `knot grid`.
     Columns are named by their titles, or by their numbers from 1; the other words are those of tools/from_table.py. A row that can't be had
     is put into `faults` and left out where this list is given, and else raised as an EntryError. Raises TableError where the table as a whole
     can't be read, or has no knot of this name."""

@@ -5,10 +5,11 @@ A cocycle φ mod k is a square of numbers: line x has φ(x, 0), φ(x, 1), and so
 from collections import Counter
 
 from .cocycles import MAX_MODULUS, cocycle_fault, cocycle_text, read_cocycle, read_weighed_quandles
-from .diagrams import covers, ends, is_up, walk
+from .colourings import walk
+from .diagrams import covers, ends, is_up
 
-__all__ = ("MAX_MODULUS", "all_met", "cocycle_fault", "cocycle_text", "colourings", "pairs_met", "read_cocycle", "read_weighed_quandles", "rows_from_below",
-           "weights")
+__all__ = ("MAX_MODULUS", "all_met", "cocycle_fault", "cocycle_text", "colourings", "is_connected", "pairs_met", "read_cocycle", "read_weighed_quandles", "rows_from_below",
+           "weight_lists")
 
 
 # Colourings and weights
@@ -79,13 +80,23 @@ def pairs_met(grid, quandle, colours):
     return met
 
 
+def is_connected(table):
+    """Whether the translations of a quandle lead from each colour to each other one, by its table."""
+    seen, waiting = {0}, [0]
+    while waiting:
+        found = set(table[waiting.pop()]) - seen
+        seen |= found
+        waiting += found
+    return len(seen) == len(table)
+
+
 def all_met(grid, quandle, connected):
     """What all colourings count, and how many colourings each represents. Of a connected quandle each colour of the lowest row sees the same
     weights, since translations change a cocycle by a coboundary; so one colour is enough."""
     return [pairs_met(grid, quandle, colours) for colours in colourings(grid, quandle, 0 if connected else None)], len(quandle.over) if connected else 1
 
 
-def weights(found, cocycles, modulus):
+def weight_lists(found, cocycles, modulus):
     """How many colourings have each list of weights, one for each cocycle, by what `all_met` found."""
     counted = Counter()
     for met in found[0]:

@@ -7,7 +7,7 @@ from types import SimpleNamespace
 sys.path.insert(0, os.path.dirname(os.path.abspath(__file__)))
 
 from test_module import TREFOIL, UNKNOT, WORD, Case, built, common, kw, programs
-from knot_workbench.code_texts import read_lists, read_text
+from knot_workbench.codes.reading import read_lists, read_text
 
 FIGURE_EIGHT = "PD[X[4,2,5,1], X[8,6,1,5], X[6,3,7,4], X[2,7,3,8]]"
 ROWS = [[1, 5, 2, 4], [3, 1, 4, 6], [5, 3, 6, 2]]
@@ -59,11 +59,13 @@ class Codes(unittest.TestCase):
         self.refused("1 crossings have 2 signs", kw.from_gauss, [1, -1], [1, 1])
 
     def test_other_texts_are_refused(self):
-        for text, said in (("", "empty"), ("  \n", "empty"), ("4_1", "neither a number nor a bracket"), ("DT[4,6,2", "']' is missing"), ("[1)", "closes none"),
-                           ("PD[]", "without rows"), ("1 2 3", "no PD, DT or Gauss code"), ("[[1,2],[3]]", "no PD, DT or Gauss code"),
-                           ("[[[[[[1]]]]]]", "brackets within brackets"), ("1234567890", "too many digits"), ("PD[X[1,2,3]]", "four edges"),
-                           ("X425 X8615", "'X425' is no crossing"), ("X4251,8 X8615", "'X4251,8' is no crossing"), ("X4251 8615", "row 2 is 8615"),
-                           ("x4251", "neither a number nor a bracket")):
+        for text, said in (("", "empty"), ("  \n", "empty"), ("4_1", "neither a number, a comma nor a bracket"), ("DT[4,6,2", "']' is missing"),
+                           ("[1)", "closes none"), ("PD[]", "without rows"), ("1 2 3", "no PD, DT or Gauss code"), ("[[1,2],[3]]", "no PD, DT or Gauss code"),
+                           ("[[[[[[1]]]]]]", "brackets within brackets"), ("1234567890", "too many digits"),
+                           ("PD[X[1,2,3]]", "row 1 of a PD code has four numbers, and not [1, 2, 3]"), ("X425 X8615", "'X425' is no crossing"),
+                           ("X4251,8 X8615", "'X4251,8' is no crossing"), ("X4251 8615", "row 2 of a PD code has four numbers, and not 8615"),
+                           ("x4251", "neither a number, a comma nor a bracket"), ("DT:[(4,6,2),()]", "component 2 of a DT code has no crossing"),
+                           ("Gauss[1,[-1]]", "component 1 is 1")):
             self.refused(said, read_text, text)
         self.refused("a DT code by its first word, and a PD code is due", read_text, "DT[4,6,2]", "PD")
 
@@ -82,7 +84,8 @@ class Given(Case):
 
     def test_links_and_texts_are_taken_where_a_diagram_is_due(self):
         with self.says(0, TREFOIL.text):
-            for given in (REGINA, FIGURE_EIGHT, "DT[4,6,2]", "{1,-2,3,-1,2,-3}", "O1+U2+O3+U1+O2+U3+", "{{6,8},{2,4}}", kw.Code(ROWS, 0, [])):
+            for given in (REGINA, FIGURE_EIGHT, "DT[4,6,2]", "{1,-2,3,-1,2,-3}", "O1+U2+O3+U1+O2+U3+", "{{6,8},{2,4}}", kw.Code(ROWS, 0, []),
+                          "[[1,1,2,2]]", "# a name\nDT[4,6,2]\n"):
                 self.assertEqual(kw.diagram(given), TREFOIL)
         for text, wanted in (("2 1 1 1", WORD), ("braid 2 1 1 1\n", WORD), ("{1,1,1}", WORD), ("{2,{1,1,1}}", WORD), ("{1,-1}", kw.Braid(2, [1, -1])),
                              ("# a name\n" + TREFOIL.text, TREFOIL), ("{{5,3},{4,2},{3,1},{2,5},{1,4}}", kw.Grid([4, 3, 2, 1, 0], [2, 1, 0, 4, 3]))):

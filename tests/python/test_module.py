@@ -386,9 +386,9 @@ class Sources(Case):
     def test_a_planar_diagram_code(self):
         with self.says(0, TREFOIL.text):
             self.assertEqual(kw.from_pd([(1, 5, 2, 4), (3, 1, 4, 6), (5, 3, 6, 2)]), TREFOIL)
-            self.assertEqual(self.got(), ("grid", "X[1,5,2,4]\nX[3,1,4,6]\nX[5,3,6,2]\n"))
+            self.assertEqual(self.got(), ("grid", "crossings 3\nX[1,5,2,4]\nX[3,1,4,6]\nX[5,3,6,2]\nloops 0\n"))
             kw.from_pd([], loops=2)
-            self.assertEqual(self.got()[1], "loops 2\n")
+            self.assertEqual(self.got()[1], "crossings 0\nloops 2\n")
             kw.from_code(kw.read_code(common.read("examples", "code", "right-trefoil.out")))
             self.assertEqual(self.got()[1], common.read("examples", "code", "right-trefoil.out"))
         for answer, cause in (("rejected edge 5", "edge 5"), ("rejected direction 2", "direction 2"), ("rejected plane", "plane"), ("rejected empty", "empty")):
@@ -398,7 +398,7 @@ class Sources(Case):
             self.assertEqual(self.fails(kw.OverLimit, "columns 60", kw.from_pd, []).limit, "columns 60")
         with self.says(2, "usage: knot JOB\n"):
             self.fails(kw.NoJob, "'grid'", kw.from_pd, [])
-        self.fails(kw.BadCode, "four edges", kw.from_pd, [[1, 1, 2]])
+        self.fails(kw.BadCode, "row 1 of a PD code has four numbers", kw.from_pd, [[1, 1, 2]])
 
     def test_links_of_other_programs(self):
         rows = [(1, 5, 2, 4), (3, 1, 4, 6), (5, 3, 6, 2)]
@@ -407,11 +407,11 @@ class Sources(Case):
         snappy = SimpleNamespace(PD_code=lambda: rows, unlinked_unknot_components=1)
         with self.says(0, TREFOIL.text):
             kw.from_sage(sage)
-            self.assertEqual(self.got()[1], "X[1,5,2,4]\nX[3,1,4,6]\nX[5,3,6,2]\n")
+            self.assertEqual(self.got()[1], "crossings 3\nX[1,5,2,4]\nX[3,1,4,6]\nX[5,3,6,2]\nloops 0\n")
             kw.from_regina(regina)
-            self.assertEqual(self.got()[1], "X[1,5,2,4]\nX[3,1,4,6]\nX[5,3,6,2]\nloops 1\n")
+            self.assertEqual(self.got()[1], "crossings 3\nX[1,5,2,4]\nX[3,1,4,6]\nX[5,3,6,2]\nloops 1\n")
             kw.from_snappy(snappy)
-            self.assertEqual(self.got()[1], "X[1,5,2,4]\nX[3,1,4,6]\nX[5,3,6,2]\nloops 1\n")
+            self.assertEqual(self.got()[1], "crossings 3\nX[1,5,2,4]\nX[3,1,4,6]\nX[5,3,6,2]\nloops 1\n")
         regina.countComponents = lambda: 0
         self.fails(kw.BadCode, "the code has 1 components, and the link 0", kw.from_regina, regina)
 

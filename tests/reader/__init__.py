@@ -29,3 +29,8 @@ from .diagrams import CORNERS, Illegal, apply, carried, colourings, is_up, plain
 from .items import BUILT_IN, Quandle, may_follow, read_grid
 from .jobs import JOBS, MEBIBYTE, OPTIONS, Refused, answer, read_words
 from .lines import DONE, LIMIT, MALFORMED, NOT_UTF8, OUT_OF_MEMORY, READ_FAULT, REJECTED, UNKNOWN, USAGE, WRITE_FAULT, Fault, Lines
+
+__all__ = ("Answer", "BUILT_IN", "CORNERS", "DONE", "Fault", "Illegal", "JOBS", "LIMIT", "Lines", "MALFORMED", "MEBIBYTE", "NOT_UTF8", "OPTIONS",
+           "OUT_OF_MEMORY", "Quandle", "READ_FAULT", "REJECTED", "Refused", "Searched", "Simplified", "UNKNOWN", "USAGE", "WRITE_FAULT",
+           "answer", "apply", "at_feet", "carried", "closure", "colourings", "fixed_points", "is_up", "linking_numbers", "may_follow",
+           "plain_colourings", "play", "print_code", "print_grid", "read_grid", "read_words", "sign", "word_of")

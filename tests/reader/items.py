@@ -4,7 +4,7 @@ from functools import lru_cache
 from math import gcd
 
 from .braids import closure
-from .diagrams import CORNERS, colourings
+from .diagrams import CORNERS
 from .lines import (LIMIT, MALFORMED, MAX_CROSSINGS, MAX_IN_LETTER, MAX_IN_MOVE, MAX_LARGE_ORDER, MAX_LIST, MAX_ORDER, MAX_QUANDLES, MAX_SIZE, MAX_STRANDS,
     MAX_WEIGHTS, are_numbers, are_short, at_most, is_letter, is_number, is_short)
 from .weights import by_formula, is_cocycle, is_dihedral_of_prime_order, is_shadow_cocycle

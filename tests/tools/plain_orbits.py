@@ -1,7 +1,7 @@
 """What `knot simplify` and `knot least` answer, found by a plain listing of all diagrams that exchanges reach; and random steps on grids."""
-from lib.moves import made
-from lib.table_keys import after, form_of, grid_of_form, shifts_between
-from lib.table_reduced import short_place, taken_away
+from lib.sorting.keys import after, form_of, grid_of_form, shifts_between
+from lib.sorting.reduced import short_place, taken_away
+from knot_workbench.moves import made
 
 
 def is_apart(one, other):

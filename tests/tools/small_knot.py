@@ -13,8 +13,9 @@ sys.path[:0] = [os.path.join(os.path.dirname(os.path.realpath(__file__)), *parts
 import plain_orbits
 import reader
 from reader.answers import Least
-from lib.diagrams import Grid, Lines, grid_of, grid_text, move_text, read_diagram
-from lib.moves import Illegal, made, tidied
+from knot_workbench.diagrams import Grid, grid_of, grid_text
+from knot_workbench.moves import Illegal, made, tidied
+from knot_workbench.texts import Lines, move_text, read_diagram
 
 IS_SEEK = os.path.basename(sys.argv[0]).startswith("seek")
 

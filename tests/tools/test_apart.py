@@ -11,8 +11,8 @@ from common import ROOT
 
 sys.path.insert(0, os.path.join(ROOT, "bench"))
 import apart  # noqa: E402
-from apart import BOTH, MIRRORED, REVERSED, SAME, TURNS, Left, Named, Rows  # noqa: E402
-from knot_workbench.knot_rows import blocks_of  # noqa: E402
+from apart import BOTH, MIRRORED, REVERSED, SAME, TURNS, Left, NamedBlock, KnotRows  # noqa: E402
+from knot_workbench.tables.numbers import blocks_of  # noqa: E402
 
 LIST = "# A comment.\nquandle dihedral 3\n# E4: a table.\nquandle table 4\n0 2 3 1\n3 1 0 2\n1 3 2 0\n2 0 1 3\nquandle dihedral 5\nshadow mochizuki\n"
 BLOCKS = blocks_of(LIST)
@@ -26,7 +26,7 @@ ROWS = {"a": [((9,), (4,), (25, 0, 0, 0, 0))] * 2, "b": [((9,), (4,), (25, 0, 0,
 
 class WhatIsLeft(unittest.TestCase):
     def test_what_is_left_is_what_no_entry_tells(self):
-        rows = Rows(BLOCKS, ROWS)
+        rows = KnotRows(BLOCKS, ROWS)
         due = {Left(one, other, turn) for one, other in itertools.combinations(ROWS, 2) for turn in TURNS if rows.may_be(Left(one, other, turn))}
         due |= {Left(one, one, turn) for one in ROWS for turn in TURNS[1:] if rows.may_be(Left(one, one, turn))}
         found = apart.left_by(rows)
@@ -38,7 +38,7 @@ class WhatIsLeft(unittest.TestCase):
         self.assertEqual({apart.kind_of(one) for one in found if one.one == "c"}, {"pairs", "mirrors"})
 
     def test_classes(self):
-        self.assertEqual(apart.classes_of(list(ROWS), apart.left_by(Rows(BLOCKS, ROWS))), (3, 1))
+        self.assertEqual(apart.undistinguished(list(ROWS), apart.left_by(KnotRows(BLOCKS, ROWS))), (3, 1))
 
 
 class Order(unittest.TestCase):
@@ -48,14 +48,14 @@ class Order(unittest.TestCase):
 
     def test_what_some_blocks_leave(self):
         rows = {name: pair for name, pair in ROWS.items() if name != "d"}
-        marks = apart.marks_of(Rows(BLOCKS, rows))
+        marks = apart.marks_of(KnotRows(BLOCKS, rows))
         self.assertEqual(apart.untold_by(marks, []), (6, 4, 4))
         self.assertEqual(apart.untold_by(marks, [0]), (2, 4, 4))
         self.assertEqual(apart.untold_by(marks, [0, 1]), (1, 4, 4))
         self.assertEqual(apart.untold_by(marks, [0, 1, 2]), (1, 3, 3))
 
     def test_that_comes_first_which_tells_most_a_millisecond(self):
-        some = [Named(label, label, None) for label in ("dear", "cheap", "none")]
+        some = [NamedBlock(label, label, None) for label in ("dear", "cheap", "none")]
         costs = {"dear": 10, "cheap": 1, "none": 0.1}
         told = {0: {1, 2, 3, 4, 5, 6, 7, 8}, 1: {1, 2}, 2: set()}
         with mock.patch.object(apart, "cost_of", lambda known, names, listed: costs[listed]), contextlib.redirect_stdout(io.StringIO()) as out:

@@ -9,18 +9,13 @@ import sys
 import tempfile
 import time
 import unittest
-from types import SimpleNamespace
-from unittest import mock
 
 import common
-from lib import batch_call
-from lib.batch_stages import BatchError
-from lib.whole_files import host_name
+from lib.calls.whole_files import host_name
 
 TREE = common.ROOT
 SCRIPT = os.path.join(TREE, "tools", "batch.py")
 STAND_IN = os.path.join(TREE, "tests", "tools", "stand_in.py")
-HAS_PARALLEL = shutil.which("parallel") is not None
 
 STAGES = "# two stages\nfirst --spare 1 --budget 100\nsecond --spare 1 --budget 200\n"
 
@@ -49,7 +44,7 @@ class BatchTest(unittest.TestCase):
         self.put(os.path.join("problems", name + ".txt"), f"# calls: {self.calls}\n{text}")
 
     def words(self, *words):
-        return [sys.executable, "-B", SCRIPT, "--with", "python", "--processes", "2", "--stages", self.stages, *words]
+        return [sys.executable, "-B", SCRIPT, "--processes", "2", "--stages", self.stages, *words]
 
     def environment(self, program=STAND_IN):
         return {**os.environ, "KNOT": program, "SEEK": self.seek}
@@ -387,10 +382,10 @@ class PartsTest(BatchTest):
 
 
 class SignalsTest(BatchTest):
-    def stop_with(self, number, *words):
+    def stop_with(self, number):
         for name in "abcd":
             self.problem(name, "# sleep 3600\n")
-        process = subprocess.Popen(self.words(*words, self.problems, self.answers), env=self.environment(), stdout=subprocess.PIPE,
+        process = subprocess.Popen(self.words(self.problems, self.answers), env=self.environment(), stdout=subprocess.PIPE,
                                    stderr=subprocess.PIPE, text=True, preexec_fn=common.default_signals)
         limit = time.monotonic() + common.LONG
         while not os.path.exists(self.calls) and time.monotonic() < limit:
@@ -400,8 +395,7 @@ class SignalsTest(BatchTest):
         _, errors = process.communicate(timeout=common.LONG)
         self.assertEqual(process.returncode, 128 + number)
         self.assertIn(f"stopped by signal {number:d}; called again, it goes on", errors)
-        left = [name for name in self.kept_files() if name != "jobs.log"]
-        self.assertEqual(left, [])
+        self.assertEqual(self.kept_files(), [])
         for name in "abcd":
             self.problem(name, "# at 100: 0 equal 0\n")
         self.assertEqual(self.batch()[0], 0)
@@ -412,10 +406,6 @@ class SignalsTest(BatchTest):
                 self.stop_with(number)
                 shutil.rmtree(self.answers)
                 os.unlink(self.calls)
-
-    @unittest.skipUnless(HAS_PARALLEL, "GNU parallel is not installed")
-    def test_a_signal_under_parallel(self):
-        self.stop_with(signal.SIGTERM, "--with", "parallel")
 
     def test_parts_that_a_kill_left_are_swept(self):
         self.problem("a", "# at 100: 0 equal 0\n")
@@ -428,45 +418,19 @@ class SignalsTest(BatchTest):
         self.assertEqual([os.path.exists(path) for path in (old, new, other)], [False, True, True])
 
 
-class OwnProcesses(unittest.TestCase):
-    """What runs the processes where no word says it."""
+class WhatWent(BatchTest):
+    def test_an_option_that_went_is_refused_with_the_way_now(self):
+        for words, name in ((["--hosts", "hosts.txt"], "--hosts"), (["--with", "parallel"], "--with parallel"), (["--stage", "first", "--trial"], "--trial")):
+            status, out, errors = self.batch(*words)
+            self.assertEqual((status, out, os.path.exists(self.answers)), (2, "", False))
+            self.assertIn(f"batch.py: error: {name} is no option any more: GNU parallel, ssh or a queue calls the parts of a folder, each by --part K/N; "
+                          "docs/BATCH.md has the lines, under 'Several machines'\n", errors)
+        self.assertIn("\n## Several machines\n", common.read("docs", "BATCH.md"))
 
-    def test_gnu_parallel_is_taken_for_hosts_alone(self):
-        for runs, hosts, wanted in (("auto", None, False), ("auto", "hosts", True), ("python", None, False), ("parallel", None, True)):
-            options = SimpleNamespace(runs=runs, hosts=hosts, job="check")
-            programs = SimpleNamespace(prepare=lambda uses: None, completed=lambda stage: stage, call=lambda stage: [], probe=lambda *words: None)
-            with mock.patch.object(batch_call, "has_parallel", lambda: True):
-                batch_call.prepare(options, [], programs)
-            self.assertEqual(options.parallel, wanted, (runs, hosts))
-
-    def test_hosts_want_gnu_parallel(self):
-        for runs, hosts, said in (("auto", "hosts", "not installed"), ("parallel", None, "not installed"), ("python", "hosts", "--hosts needs GNU parallel")):
-            with mock.patch.object(batch_call, "has_parallel", lambda: False), self.assertRaisesRegex(BatchError, said):
-                batch_call.prepare(SimpleNamespace(runs=runs, hosts=hosts, job="check"), [], None)
-
-
-@unittest.skipUnless(HAS_PARALLEL, "GNU parallel is not installed")
-class ParallelTest(BatchTest):
-    def test_the_same_under_parallel(self):
-        self.problem("a b'c", "# at 100: 0 equal 0\n")
-        self.problem("b", "# at 200: 0 equal 0\n")
-        self.problem("c", "# at 100: 7\n")
-        status, out, errors = self.batch("--with", "parallel")
-        self.assertEqual((status, out), (3, "3 problems: 2 equal, 1 without an answer; 2 of 2 certificates accepted\n"), errors)
-        self.assertIn("c.txt: stage first: no answer, status 7, memory ran out", errors)
-        log = [line.split("\t") for line in self.read("jobs.log").splitlines()]
-        self.assertEqual({len(line) for line in log}, {9})
-        self.assertEqual(sorted(line[6] for line in log), ["0", "0", "0", "3"])
-
-    def test_hosts_by_logins(self):
-        # A stand-in for ssh, which runs the command here: like ssh it takes the host and puts the other words together.
-        ssh = self.put("ssh", '#!/bin/sh\nshift\n[ "$1" = -- ] && shift\nexec sh -c "$*"\n')
-        os.chmod(ssh, 0o755)
-        hosts = self.put("hosts", f"1/{ssh} one\n1/{ssh} two\n")
-        for name in ("a b'c", "b", "c"):
-            self.problem(name, "# at 200: 0 equal 0\n")
-        status, out, errors = self.batch("--with", "auto", "--hosts", hosts)
-        self.assertEqual((status, out), (0, "3 problems: 3 equal; 3 of 3 certificates accepted\n"), errors)
+    def test_the_scripts_own_processes_may_be_asked_for_by_name(self):
+        self.problem("a", "# at 100: 0 equal 0\n")
+        for name in ("python", "auto"):
+            self.assertEqual(self.batch("--with", name)[:2], (0, "1 problems: 1 equal; 1 of 1 certificates accepted\n"))
 
 
 if __name__ == "__main__":

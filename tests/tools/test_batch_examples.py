@@ -54,7 +54,7 @@ class BuiltTest(BatchTest):
     def test_braids_against_arcs(self):
         self.from_table("--diagram", "braid_notation", "--second", "arc_notation")
         stages = os.path.join(TREE, "examples", "table", "stages.txt")
-        done = subprocess.run([sys.executable, "-B", SCRIPT, "--with", "python", "--no-seek", "--stages", stages, self.problems, self.answers],
+        done = subprocess.run([sys.executable, "-B", SCRIPT, "--no-seek", "--stages", stages, self.problems, self.answers],
                               env=self.environment(), capture_output=True, text=True, check=False)
         rows = self.rows()
         self.assertEqual(rows["3_1_mirrored"]["verdict"], "unknown")
@@ -66,7 +66,7 @@ class BuiltTest(BatchTest):
         self.assertEqual(again.returncode, 0, again.stderr)
 
     def test_the_five_problems_of_the_examples(self):
-        done = subprocess.run([sys.executable, "-B", SCRIPT, "--with", "python", "--no-seek", EXAMPLES, self.answers], env=self.environment(),
+        done = subprocess.run([sys.executable, "-B", SCRIPT, "--no-seek", EXAMPLES, self.answers], env=self.environment(),
                               capture_output=True, text=True, check=False)
         self.assertEqual(done.returncode, 1, done.stderr)
         verdicts = {name: row["verdict"] for name, row in self.rows().items()}

@@ -6,7 +6,7 @@ import subprocess
 import sys
 import unittest
 
-from test_batch import HAS_PARALLEL, SCRIPT, STAND_IN, TREE, BatchTest
+from test_batch import SCRIPT, STAND_IN, TREE, BatchTest
 
 SEEKS = "# a small search, then seek, then a larger search\nfirst --budget 100\nseek seek --steps 5\nlarge --budget 200\n"
 
@@ -113,16 +113,6 @@ class SeekTest(BatchTest):
         self.assertIn("b.txt: refused at stage more: limit line 2", errors)
 
 
-    @unittest.skipUnless(HAS_PARALLEL, "GNU parallel is not installed")
-    def test_the_same_under_parallel(self):
-        self.put("stages.txt", SEEKS)
-        self.problem("a", "# seek: 0 equal 3\n")
-        self.problem("b", "# seek: 7\n# says: memory ran out\n")
-        status, out, errors = self.batch("--with", "parallel")
-        self.assertEqual((status, out), (3, "2 problems: 1 equal, 1 unknown; 1 of 1 certificates accepted\n"), errors)
-        self.assertIn("b.txt: stage seek: no answer, status 7, memory ran out: memory ran out", errors)
-
-
 class NamesTest(BatchTest):
     def test_names_as_the_table_has_them(self):
         self.problem("a__b", "# first: T(2,3) mirrored\n# second: 4_1\n# at 100: 0 equal 0\n")
@@ -205,7 +195,7 @@ class ProgramsTest(BatchTest):
         self.problem("a", "# at 100: 0 equal 0\n")
         link = os.path.join(self.folder, "batch")
         os.symlink(SCRIPT, link)
-        words = [sys.executable, "-B", link, "--with", "python", self.problems, self.answers, "--no-seek"]
+        words = [sys.executable, "-B", link, self.problems, self.answers, "--no-seek"]
         done = subprocess.run(words, env=self.environment(), capture_output=True, text=True, check=False, cwd=self.folder)
         # The stages are those of the tree to which the link leads.
         self.assertEqual(done.returncode, 1, done.stderr)

@@ -14,9 +14,9 @@ import unittest
 import browser
 import common
 import reader
-from lib.diagrams import Braid, Grid, diagram_text, mirror_image, reverse
-from lib.diagrams import Lines, grid_of, read_diagram
-from lib.moves import made
+from knot_workbench.diagrams import Braid, Grid, diagram_text, grid_of, mirror_image, reverse
+from knot_workbench.moves import made
+from knot_workbench.texts import Lines, read_diagram
 from reader.items import read_table
 
 SCRIPT = os.path.join(common.TOOLS, "census.py")
@@ -282,6 +282,25 @@ class SpreadTest(CensusTest):
             self.assertIn("stopped by signal 15; called again, it goes on", errors)
         parts = [name for _, _, names in os.walk(self.census) for name in names if name.endswith(".part")]
         self.assertEqual(parts, [])
+        self.assertEqual(self.sort()[:2], (0, SORTED))
+
+    def test_a_folder_of_another_version_is_refused(self):
+        self.put_sorted()
+        work, tried = os.path.join(self.census, "work"), []
+        for name in sorted(os.listdir(work)):
+            path = os.path.join(work, name)
+            with open(path, "rb") as file:
+                before = file.read()
+            # As books were before: lines without sums, and no head.
+            lines = [line.rpartition("\t")[0] + "\n" for line in before.decode().splitlines()[1:]]
+            if lines:
+                tried.append(name)
+                self.put(path, "".join(lines))
+                refused = f"census.py: {path}: the folder is of another version: name another one\n"
+                self.assertEqual(self.sort(), (2, "", refused))
+                with open(path, "wb") as file:
+                    file.write(before)
+        self.assertLess({"keys.tsv", "numbers.tsv", "rows.tsv"}, set(tried))
         self.assertEqual(self.sort()[:2], (0, SORTED))
 
     def logged(self):

@@ -12,11 +12,14 @@ from unittest import mock
 import common
 import plain_orbits
 import small_knot
+from lib.batch import call as batch_call
+from lib.census import call as census_call
+from lib.sorting.reduced import Reducer
 from knot_workbench.answers import Answer
-from knot_workbench.diagrams import Braid, Grid, Lines, grid_of, grid_text, mirror_image, read_diagram
+from knot_workbench.diagrams import Braid, Grid, grid_of, grid_text, mirror_image
 from knot_workbench.faults import Fault
-from lib import batch_call, batch_programs, census_call, table_worker
-from lib.table_reduced import Reducer
+from knot_workbench.programs import Caller, Ran
+from knot_workbench.texts import Lines, read_diagram
 from test_census import HOPF, TREFOIL, UNKNOT, CensusTest
 
 EXAMPLES = os.path.join(common.ROOT, "examples")
@@ -69,24 +72,24 @@ def example_answers():
 
 
 def answered_in_place(job, status, out):
-    """What is in place of Runner.run: it gives one answer to this job, and asks the stand-in for all others."""
-    def run(_, call, given, is_shown=False):
+    """What is in place of Caller.run: it gives one answer to this job, and asks the stand-in for all others."""
+    def run(_, call, given, **_limits):
         """The answer of a call; of an empty input the line that is due is missing."""
         words, text = call[1:], given.decode()
         is_seek = os.path.basename(call[0]) == "seek"
         if text and job == ("seek" if is_seek else words[0]):
-            return batch_programs.Ran(status, out.encode())
+            return Ran(status, out.encode())
         with mock.patch.object(small_knot, "IS_SEEK", is_seek):
             found = small_knot.answered(["decide"] if is_seek else words, text)
-        return batch_programs.Ran(found[0], found[1].encode())
+        return Ran(found[0], found[1].encode())
     return run
 
 
 class Here:
     """Stands in place of the workers: one worker in this process."""
 
-    def __init__(self, _, words):
-        self.worker = table_worker.Worker(*words)
+    def __init__(self, _, begin, words):
+        self.worker = begin(*words)
 
     def __enter__(self):
         return self
@@ -94,23 +97,17 @@ class Here:
     def __exit__(self, *_):
         pass
 
-    def each(self, method, items, lot=1):
+    def each(self, function, items, lot=1):
         """The answers to all items."""
-        return map(getattr(self.worker, method), items)
-
-
-def called(_, path, words, text):
-    """What is in place of a worker's call of a program."""
-    found = batch_programs.Runner.run(None, [path, *words], text.encode())
-    return found.status, found.body.decode()
+        return (function(self.worker, item) for item in items)
 
 
 class AnswersTest(CensusTest):
     def main(self, script, words, given):
         """A call of a script, where a job has the answer that is given: its status and what it said."""
         out, errors = io.StringIO(), io.StringIO()
-        with mock.patch.object(batch_programs.Runner, "run", answered_in_place(*given)), mock.patch.object(script, "on_signals", lambda: None), \
-                mock.patch.object(census_call, "Pool", Here), mock.patch.object(table_worker.Caller, "call", called), \
+        with mock.patch.object(Caller, "run", answered_in_place(*given)), mock.patch.object(script, "on_signals", lambda: None), \
+                mock.patch.object(census_call, "processes", Here), \
                 mock.patch.dict(os.environ, self.environment()), contextlib.redirect_stdout(out), contextlib.redirect_stderr(errors):
             status = script.main(words)
         return status, errors.getvalue()
@@ -120,7 +117,7 @@ class AnswersTest(CensusTest):
         problems = os.path.join(self.folder, "problems")
         os.makedirs(problems, exist_ok=True)
         self.put("problems/a.txt", text)
-        words = ["--with", "python", "--again", "--job", job, problems, os.path.join(self.folder, "answers")]
+        words = ["--again", "--job", job, problems, os.path.join(self.folder, "answers")]
         if job == "decide":
             words[:0] = ["--stages", self.put("one.txt", "only --spare 0\n")]
         return self.main(batch_call, words, (job, status, out))

@@ -5,14 +5,15 @@ import unittest
 
 import common
 import grid_facts
-from knot_workbench.knot_tables import BOTH, MIRRORED, SAME
-from lib.batch_stages import BatchError
-from lib.census_plan import blocks_of, read_plan
-from lib.census_results import file_name
-from lib.diagrams import Braid, Grid, braid_fault, closure, mirror_image, reverse
-from lib.moves import back, made
-from lib.moves import turned as turned_moves
-from lib.smaller import reduced, related
+from lib.batch.stages import BatchError
+from lib.census.plan import read_plan
+from lib.census.results import pair_name
+from lib.codes.smaller import reduced, related
+from lib.tables.blocks import split_blocks
+from knot_workbench.diagrams import Braid, Grid, closure, mirror_image, reverse
+from knot_workbench.moves import back, made, turned as turned_moves
+from knot_workbench.tables.knots import BOTH, MIRRORED, SAME
+from knot_workbench.texts import braid_fault
 from test_join import walk
 
 TREFOIL = Grid((4, 3, 2, 1, 0), (2, 1, 0, 4, 3))
@@ -89,7 +90,7 @@ class Plans(unittest.TestCase):
             self.assertIn(said, str(caught.exception))
 
     def test_blocks(self):
-        head, blocks = blocks_of("# two\nbraid 2 1\n# a quandle\nquandle table 1\n0\n\nweight 2\n0\nquandle dihedral  3\nshadow mochizuki\n")
+        head, blocks = split_blocks("# two\nbraid 2 1\n# a quandle\nquandle table 1\n0\n\nweight 2\n0\nquandle dihedral  3\nshadow mochizuki\n")
         self.assertEqual(head, "# two\nbraid 2 1\n# a quandle\n")
         self.assertEqual([(block.quandle, block.text, block.has_weight) for block in blocks],
                          [("quandle table 1\n0\n", "quandle table 1\n0\nweight 2\n0\n", True), ("quandle dihedral 3\n", "quandle dihedral 3\nshadow mochizuki\n", True)])
@@ -97,10 +98,10 @@ class Plans(unittest.TestCase):
 
 class Names(unittest.TestCase):
     def test_files_of_other_diagrams_have_other_names(self):
-        self.assertEqual(file_name(["a", "b"], BOTH), "a--b~mirrored~reversed")
+        self.assertEqual(pair_name(["a", "b"], BOTH), "a--b~mirrored~reversed")
         asked = [(["a--b", "c"], SAME), (["a", "b--c"], SAME), (["a-", "b"], SAME), (["a", "-b"], SAME), (["a~mirrored", "b"], SAME), (["a", "b"], MIRRORED),
                  (["a" * 200, "b"], SAME), (["a" * 200, "b"], MIRRORED), (["a" * 100, "b" * 100], SAME), (["a" * 100, "b" * 101], SAME)]
-        names = [file_name(*words) for words in asked]
+        names = [pair_name(*words) for words in asked]
         self.assertEqual(len(set(names)), len(names))
         self.assertLessEqual(max(map(len, names)), 150)
 

@@ -1,24 +1,18 @@
-"""Linear algebra mod k, cocycles of quandles, and weights of colourings."""
+"""Linear algebra mod k, cocycles of quandles, and what cocycles.py finds by them."""
 import itertools
 import os
 import tempfile
 import unittest
-from collections import Counter
 
 import common
-import cocycles
-import knot_invariants
-import quandles
 import reader
-import weight_tables
-from lib import cohomology, connected, crossing_codes, diagrams, linear
-from knot_workbench import weighing
-from knot_workbench.moves import carried, made
+from lib.cocycles import cohomology, linear
+from lib.cocycles.differing import cocycles_of
+from knot_workbench import quandles, texts, weighing
 
-TETRAHEDRAL = diagrams.tetrahedral()
+TETRAHEDRAL = quandles.tetrahedral()
 # The cocycle mod 2 of Carter, Jelsovsky, Kamada, Langford and Saito (2003) for the tetrahedral quandle, up to a coboundary.
 COCYCLE = [[0, 1, 1, 0], [1, 0, 1, 0], [1, 1, 0, 0], [0, 0, 0, 0]]
-FOUR_CYCLES = connected.Collection(6).found[6][1].table
 
 
 def vector_of(square):
@@ -80,98 +74,17 @@ class Cocycles(unittest.TestCase):
 
     def test_what_is_found_are_cocycles(self):
         for order in (4, 6, 9, 12):
-            for found in connected.Collection(order).found[order]:
-                for modulus, squares in cocycles.cocycles_of(diagrams.quandle_of("", found.table), (2, 3, 4, 5)):
+            listed = texts.Lines(common.read("quandles", f"connected-{order:02}.txt"))
+            for quandle, _ in weighing.read_weighed_quandles(listed):
+                for modulus, squares in cocycles_of(quandle, (2, 3, 4, 5)):
                     for square in squares:
-                        self.assertIsNone(weighing.cocycle_fault(found.table, square, modulus))
+                        self.assertIsNone(weighing.cocycle_fault(quandle.over, square, modulus))
 
-    def test_coboundaries_are_cocycles_and_weigh_nothing(self):
-        braid = diagrams.Braid(2, (1, 1, 1))
-        for vector in cohomology.coboundaries(FOUR_CYCLES, 4):
-            square = cocycles.square(6, vector)
-            self.assertIsNone(weighing.cocycle_fault(FOUR_CYCLES, square, 4))
-            counted = cocycles.weights_of_braid(braid, diagrams.quandle_of("", FOUR_CYCLES), [square], 4)
-            self.assertEqual(set(counted), {(0,)})
 
     def test_dihedral_quandles_of_prime_order_have_none(self):
         for order in (3, 5, 7):
             for modulus in (2, 3, 4, 5):
-                self.assertEqual(cohomology.classes_of_cocycles(diagrams.dihedral(order).over, modulus), [])
-
-
-class Weights(unittest.TestCase):
-    def test_the_trefoil_and_two_unknots_by_the_published_cocycle(self):
-        trefoil = diagrams.Grid((4, 3, 2, 1, 0), (2, 1, 0, 4, 3))
-        left = diagrams.Grid((0, 1, 2, 3, 4), (2, 3, 4, 0, 1))
-        two = diagrams.closure(diagrams.Braid(2, ()))[0]
-        for grid, wanted in ((trefoil, {0: 4, 1: 12}), (left, {0: 4, 1: 12}), (two, {0: 16})):
-            found = cocycles.all_colourings(grid, TETRAHEDRAL)
-            weights = Counter(cocycles.weight_on_grid(grid, TETRAHEDRAL, COCYCLE, colours) % 2 for colours in found)
-            self.assertEqual(dict(weights), wanted)
-
-    def test_a_braid_and_its_closure_have_the_same_weights(self):
-        quandle = diagrams.quandle_of("", FOUR_CYCLES)
-        ((modulus, squares),) = cocycles.cocycles_of(quandle, (4,))
-        for strands, letters in ((2, (1, 1, 1)), (2, (-1, -1, -1)), (3, (1, -2, 1, -2)), (3, (1, 1, 1, 2, -1, 2))):
-            braid = diagrams.Braid(strands, letters)
-            grid, _ = diagrams.closure(braid)
-            found = Counter((cocycles.weight_on_grid(grid, quandle, squares[0], colours) % modulus,) for colours in cocycles.all_colourings(grid, quandle))
-            self.assertEqual(cocycles.weights_of_braid(braid, quandle, squares, modulus), found)
-
-    def test_moves_keep_the_weight_of_the_carried_colouring(self):
-        quandle = diagrams.quandle_of("", FOUR_CYCLES)
-        ((modulus, squares),) = cocycles.cocycles_of(quandle, (4,))
-        grid = diagrams.Grid((4, 3, 2, 1, 0), (2, 1, 0, 4, 3))
-        moves = [("shift", which, by) for which in ("rows", "columns") for by in range(1, 5)]
-        moves += [("stabilise", column, kind, corner) for column in range(5) for kind in "xo" for corner in diagrams.CORNERS]
-        for colours in cocycles.all_colourings(grid, quandle):
-            weight = cocycles.weight_on_grid(grid, quandle, squares[0], colours) % modulus
-            for move in moves:
-                after, image = made(grid, move), carried(grid, quandle, colours, move)
-                self.assertTrue(diagrams.is_colouring(after, quandle, image))
-                self.assertEqual(cocycles.weight_on_grid(after, quandle, squares[0], image) % modulus, weight, move)
-
-    def test_the_trefoils_are_told_apart_and_the_figure_eights_are_not(self):
-        with tempfile.TemporaryDirectory() as folder:
-            knots = os.path.join(folder, "knots.csv")
-            with open(knots, "w", encoding="utf-8") as out:
-                out.write('name,braid\n3_1,"{1,1,1}"\n4_1,"{1,-2,1,-2}"\n')
-            status, said, _ = common.run("cocycles.py", "search", knots, os.path.join(common.LISTS, "connected-06.txt"), "--moduli", "4", "--write", folder)
-            self.assertEqual(status, 0)
-            self.assertIn("3_1 and mirror image of 3_1: order 6 mod 4, weights 6 24 0 0 and 6 0 0 24", said)
-            self.assertIn("4_1 and mirror image of 4_1: equal numbers of colourings, and equal weights", said)
-            self.assertEqual(sorted(os.listdir(folder)), ["3_1-mirror-3_1.txt", "knots.csv"])
-
-    def test_the_stored_problems_say_what_their_heads_say(self):
-        blocks = {"list.txt", *(f"{name}.txt" for name in (*weight_tables.READY, *weight_tables.SHADOWS, *weight_tables.CLASSES))}
-        names = sorted(set(os.listdir(os.path.join(common.LISTS, "weights"))) - blocks)
-        self.assertTrue(names)
-        for name in names:
-            text = common.read("quandles", "weights", name)
-            head = [line for line in text.splitlines() if line.startswith("# weights ")]
-            lines = diagrams.Lines(text)
-            pair = [diagrams.read_diagram(lines) for _ in range(2)]
-            ((quandle, (modulus, cocycle)),) = weighing.read_weighed_quandles(lines)
-            found = []
-            for diagram in pair:
-                if isinstance(diagram, diagrams.Braid):
-                    counted = cocycles.weights_of_braid(diagram, quandle, [cocycle], modulus)
-                else:
-                    counted = weighing.weights(weighing.all_met(diagram, quandle, True), [cocycle], modulus)
-                found.append("# weights " + " ".join(str(counted[weight,]) for weight in range(modulus)))
-            self.assertEqual(head, found, name)
-            self.assertNotEqual(*found)
-
-
-    def test_the_grids_among_them_are_the_knots_of_the_table_and_their_mirror_images(self):
-        knots = dict(quandles.read_knots(common.KNOTS))
-        for name in ("7_2", "7_6", "8_1", "8_4", "8_13"):
-            lines = diagrams.Lines(common.read("quandles", "weights", f"{name}-mirror-{name}.txt"))
-            grid, mirrored = (diagrams.read_diagram(lines) for _ in range(2))
-            self.assertEqual(mirrored, diagrams.mirror_image(grid))
-            self.assertLessEqual(diagrams.bottoms(grid), 2)
-            code = crossing_codes.read_code(knot_invariants.code_of_grid(*map(list, grid)))
-            self.assertEqual(knot_invariants.jones_of_rows(code.rows, crossing_codes.signs(code)), knot_invariants.jones_polynomial(*knots[name]), name)
+                self.assertEqual(cohomology.classes_of_cocycles(quandles.dihedral(order).over, modulus), [])
 
 
 class Find(unittest.TestCase):
@@ -212,13 +125,12 @@ class Find(unittest.TestCase):
         path, table = os.path.join(common.scratch(self), "problem.txt"), os.path.join(common.LISTS, "weights", "T5.txt")
         with open(path, "w", encoding="utf-8") as out:
             out.write(self.RIGHT_AND_LEFT)
-        for words in (["find", path, table], ["find", table, path], ["weights", path, table]):
+        for words in (["find", path, table], ["find", table, path]):
             status, out, _ = common.run("cocycles.py", *words)
             self.assertEqual(status, 0, words)
             self.assertIn("12 60 0 0 0", out)
         for words, said in ((["find", path, path + "x"], f"{path}x: No such file or directory"),
                             (["find", path, path], f"{path}: {path} begins with a diagram too: both diagrams are in one file"),
-                            (["weights", path], "weights takes a LIST of quandles"),
                             (["find", table], "standard input: line 1: a diagram is due where the text ends")):
             self.assertEqual(common.run("cocycles.py", *words), (1, "", f"cocycles.py: {said}\n"))
 
@@ -234,11 +146,6 @@ class Find(unittest.TestCase):
         self.assertIn("9 colourings of the first and 3 of the second", said)
         self.ruled(out, "weights 9 0\nweights 3 0\ndifferent\n")
 
-    def test_colourings_by_rows_are_what_trying_all_finds(self):
-        for quandle in (TETRAHEDRAL, diagrams.dihedral(3), diagrams.trivial(2)):
-            for grid in (diagrams.Grid((4, 3, 2, 1, 0), (2, 1, 0, 4, 3)), diagrams.Grid((0, 1, 2, 3, 4), (2, 4, 3, 1, 0)), diagrams.closure(diagrams.Braid(2, (1, 1)))[0]):
-                every = itertools.product(range(len(quandle.over)), repeat=len(grid.xs))
-                self.assertEqual(cocycles.all_colourings(grid, quandle), [list(colours) for colours in every if diagrams.is_colouring(grid, quandle, colours)])
 
     def test_a_ready_table_that_is_no_cocycle_is_refused(self):
         with tempfile.NamedTemporaryFile("w", suffix=".txt") as bad:
@@ -250,27 +157,18 @@ class Find(unittest.TestCase):
 
 
 class Words(unittest.TestCase):
-    def test_a_table_of_knots_may_have_other_titles(self):
-        small = os.path.join(common.LISTS, "connected-04.txt")
-        path = os.path.join(common.scratch(self), "knots.csv")
-        with open(path, "w", encoding="utf-8") as out:
-            out.write('Knot,Braid Notation\n3_1,"{1,1,1}"\n')
-        status, out, said = common.run("cocycles.py", "search", path, small, "--moduli", "2", "--name", "Knot", "--braid", "Braid Notation")
-        self.assertEqual((status, said), (0, ""))
-        self.assertIn("3_1 and mirror image of 3_1: equal numbers of colourings, and equal weights", out)
-        status, _, said = common.run("cocycles.py", "search", path, small)
-        self.assertEqual(status, 1)
-        self.assertTrue(said.startswith(f"cocycles.py: {path}: line 1: no column 'name', but 'Knot', 'Braid Notation'"), said)
-
     def test_help_and_bad_input(self):
         self.assertEqual(common.run("cocycles.py", "--help")[0], 0)
         small = os.path.join(common.LISTS, "connected-04.txt")
-        self.assertEqual(common.run("cocycles.py", "classes", small, "--moduli", "6")[0], 2)
-        self.assertEqual(common.run("cocycles.py", "classes", "no such file"), (1, "", "cocycles.py: no such file: No such file or directory\n"))
-        self.assertEqual(common.run("cocycles.py", "weights", small, text="x 0 1\no 1 0\n")[0], 1)
-        status, out, _ = common.run("cocycles.py", "classes", small, "--moduli", "2")
-        self.assertEqual(status, 0)
-        self.assertIn("weight 2\n", out)
+        self.assertEqual(common.run("cocycles.py", "find", small, "--moduli", "6")[0], 2)
+        self.assertEqual(common.run("cocycles.py", "find", "no such file"), (1, "", "cocycles.py: no such file: No such file or directory\n"))
+        self.assertEqual(common.run("cocycles.py", "find", small, text="x 0 1\no 1 0\n")[0], 1)
+
+    def test_what_went_is_refused_with_its_place(self):
+        for job in ("classes", "search", "weights"):
+            status, out, said = common.run("cocycles.py", job, "a", "b")
+            self.assertEqual((status, out), (2, ""))
+            self.assertTrue(said.endswith(f"cocycles.py: error: {job} is a job of quandles/make/cocycle_tables.py of the sources\n"), said)
 
 
 if __name__ == "__main__":

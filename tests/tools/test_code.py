@@ -31,7 +31,7 @@ class Code(unittest.TestCase):
         path = os.path.join(common.scratch(self), "code.txt")
         with open(path, "w", encoding="utf-8") as out:
             out.write("1 2 3\n")
-        for words, said in ((["foo"], "code.py: 'foo' is neither a number nor a bracket of a code\n"), ([path], f"code.py: {path}: the lists are those of no PD"),
+        for words, said in ((["foo"], "code.py: 'foo' is neither a number, a comma nor a bracket\n"), ([path], f"code.py: {path}: the lists are those of no PD"),
                             (["--as", "pd", "DT[4,6,2]"], "a PD code is due"), (["--sage", "DT[4,6,2]"], "--sage is for the rows of a PD code")):
             status, out, told = common.run("code.py", *words)
             self.assertEqual((status, out), (1, ""))

@@ -6,7 +6,8 @@ import unittest
 
 import common
 import knot_invariants
-from lib import crossing_codes, diagrams
+from lib.codes import crossing_codes
+from knot_workbench import diagrams, texts
 
 SCRIPTS = ("to_regina.py", "to_sage.py", "to_snappy.py")
 TREFOIL = "crossings 3\nX[5,3,6,2]\nX[1,5,2,4]\nX[3,1,4,6]\nloops 0\ngauss U2+ O1+ U3+ O2+ U1+ O3+\n"
@@ -22,7 +23,7 @@ class Codes(unittest.TestCase):
         found = sorted(glob.glob(os.path.join(common.ROOT, "examples", "code", "*.txt")))
         self.assertTrue(found)
         for path in found:
-            grid = diagrams.grid_of(diagrams.read_diagram(diagrams.Lines(common.read(path))))
+            grid = diagrams.grid_of(texts.read_diagram(texts.Lines(common.read(path))))
             self.assertEqual(knot_invariants.code_of_grid(*map(list, grid)), common.read(path[:-4] + ".out"), path)
             crossing_codes.read_code(common.read(path[:-4] + ".out"))
 

@@ -145,7 +145,7 @@ class EditsTest(unittest.TestCase):
             self.put(f"crates/{name}/src/lib.rt", "fn f() {}\n")
             self.put(f"crates/{name}/must-fail/gates_own.edit", edit("bad"))
         self.edits = {}
-        for path in ("tests/edits.py", "tests/edit_rounds.py", "bench/house_crates.py"):
+        for path in ("tests/edits.py", "tests/edit_rounds.py", "upkeep/house_crates.py"):
             self.put(path, self.text(TREE, path))
         self.git("init", "--quiet")
 

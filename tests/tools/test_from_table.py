@@ -116,18 +116,18 @@ class BraidTest(TableTest):
                 ("", "the entry is empty"),
                 ("1,1,1", "the entry does not begin with a bracket"),
                 ("{1,1", "the bracket '}' is missing at the end"),
-                ("{1,1]", "a comma is due, and not ']'"),
+                ("{1,1]", "the bracket ']' closes none"),
                 ("{1 1}", "a comma is due, and not '1'"),
                 ("{1,,1}", "a number or a bracket is due, and not ','"),
                 ("{1,}", "there is a comma before a closing bracket"),
-                ("{1,1}}", "'}' comes after the last bracket"),
+                ("{1,1}}", "the bracket '}' closes none"),
                 ("{1,1},{1}", "',' comes after the last bracket; only the crossings of a PD code need no brackets around them"),
                 ("{1,{1} 1}", "a comma is due, and not '1'"),
                 ("{1,a}", "'a}' is neither a number, a comma nor a bracket"),
                 ("{1.5}", "'.5}' is neither a number, a comma nor a bracket"),
                 ("{1234567890}", "the number 123456789... has too many digits"),
-                ("{" * 5000, "the entry has too many brackets within brackets"),
-                ("{1,{2,{3}}}", "the entry is neither a braid word, a list of pairs, a PD code nor a DT code")):
+                ("{" * 5000, "there are too many brackets within brackets"),
+                ("{1,{2,{3}}}", "the entry is neither a braid word, a list of pairs, nor a PD, DT or Gauss code")):
             with self.subTest(entry[:40]):
                 self.assertEqual(self.reason(entry), reason)
 
@@ -204,7 +204,7 @@ class ArcsTest(TableTest):
                 ("{{1,2},{1,3},{1,2}}", "the number 1 comes 3 times, and not twice"),
                 ("{{1,2},{2,4},{4,1}}", "the number 4 is in a pair, and 3 pairs have the numbers 1 to 3"),
                 ("{{1,2},{2,-1}}", "the number -1 is in a pair, and 2 pairs have the numbers 1 to 2"),
-                ("{{1,2},{1,2,3}}", "the entry is neither a braid word, a list of pairs, a PD code nor a DT code")):
+                ("{{1,2},{1,2,3}}", "the entry is neither a braid word, a list of pairs, nor a PD, DT or Gauss code")):
             with self.subTest(entry[:40]):
                 self.assertEqual(self.reason(entry), reason)
 

@@ -1,11 +1,7 @@
-"""Tests of tools/identify.py, of tools/knot_table.py and of tables/: with a slow stand-in for both programs, which joins diagrams by shifts
-alone, and with the programs themselves where they are built."""
-import collections
-import contextlib
+"""Tests of tools/identify.py: with stand-ins, and with the programs themselves where they are built."""
 import csv
+import io
 import os
-import random
-import re
 import signal
 import subprocess
 import sys
@@ -14,85 +10,9 @@ import unittest
 from concurrent.futures import ThreadPoolExecutor
 
 import common
-import knot_invariants
-from knot_table import rounds_to
-from knot_workbench import Braid, Certificate, Grid, KnotTable, Turn, identify
-from knot_workbench.alexander import PLACE, PRIME, alexander_square
-from knot_workbench.diagrams import CORNERS, grid_of, grid_text
-from knot_workbench.faults import Illegal
-from knot_workbench.identifying import ROUNDS, by_likelihood, rounds_of
-from knot_workbench.knot_rows import blocks_of, may_be_one, of_sum, opposite, row_in, row_of, text_of
-from knot_workbench.knot_tables import read_knots
-from knot_workbench.moves import made
-from knot_workbench.sums import shifted_to, sum_of_grids
-from knot_workbench.table_entries import nested
-
-STAND_IN = os.path.join(common.ROOT, "tests", "tools", "small_knot.py")
-BUILT = common.built_program()
-BUILT_SEEK = os.environ.get("SEEK") or os.path.join(common.ROOT, "crates", "seek", "out", "seek")
-TABLES = os.path.join(common.ROOT, "tables")
-TO_10, TO_12 = (os.path.join(TABLES, f"prime-knots-to-{most}.csv") for most in (10, 12))
-
-# The left trefoil and the figure eight, as Rolfsen draws them, and 5_1; the rows of their Xs and Os from 1.
-TABLE = """\
-name,dt_name,crossings,arc_notation
-3_1,3a_1,3,"{{2,5},{3,1},{4,2},{5,3},{1,4}}"
-4_1,4a_1,4,"{{6,2},{4,1},{5,3},{2,4},{3,6},{1,5}}"
-5_1,5a_2,5,"{{2,7},{3,1},{4,2},{5,3},{6,4},{7,5},{1,6}}"
-"""
-SYMMETRY = """\
-name,mirror,reverse,mirror_reverse
-3_1,different by x,equal,different by x
-4_1,equal,equal,equal
-5_1,different by x,equal,different by x
-"""
-LEFT = Grid((1, 2, 3, 4, 0), (4, 0, 1, 2, 3))
-EIGHT = Grid((5, 3, 4, 1, 2, 0), (1, 0, 2, 3, 5, 4))
-# A cocycle that distinguishes the two trefoils isn't to be had for so few colours, but a shadow cocycle is.
-LIST = "quandle dihedral 3\nquandle tetrahedral\nquandle dihedral 3\nshadow mochizuki\nquandle dihedral 5\n"
-
-# A table and its rows, made by the first test that needs them.
-MADE = []
-
-
-class IdentifyTest(unittest.TestCase):
-    def setUp(self):
-        self.folder = common.scratch(self)
-        self.log = os.path.join(self.folder, "log")
-        self.seek = os.path.join(self.folder, "seek")
-        os.symlink(STAND_IN, self.seek)
-        self.list = self.put("list.txt", LIST)
-        self.table = self.put("knots.csv", TABLE)
-        if not MADE:
-            status, _, said = self.call("knot_table.py", "numbers", self.table, "--list", self.list, "--write")
-            assert status == 0, said
-            MADE.append(self.read("knots.numbers.txt"))
-        self.put("knots.numbers.txt", MADE[0])
-
-    def put(self, name, text):
-        path = os.path.join(self.folder, name)
-        os.makedirs(os.path.dirname(path), exist_ok=True)
-        with open(path, "w", encoding="utf-8", newline="") as out:
-            out.write(text)
-        return path
-
-    def read(self, name):
-        with open(os.path.join(self.folder, name), encoding="utf-8") as source:
-            return source.read()
-
-    def call(self, script, *words, text="", **programs):
-        """Calls a script with the stand-ins as its programs, or with others."""
-        environment = {**os.environ, "KNOT": STAND_IN, "SEEK": self.seek, "LOG": self.log, **programs}
-        done = subprocess.run([sys.executable, "-B", os.path.join(common.TOOLS, script), *words], env=environment, input=text, capture_output=True, text=True,
-                              check=False)
-        return done.returncode, done.stdout, done.stderr
-
-    def identify(self, *words, text=""):
-        return self.call("identify.py", "--table", self.table, "--list", self.list, *words, text=text)
-
-    def rows(self, path):
-        with open(path, encoding="utf-8", newline="") as source:
-            return list(csv.DictReader(source))
+from knot_workbench import Braid, Grid, KnotTable, identify
+from knot_workbench.diagrams import grid_text
+from three_knots import BUILT, BUILT_SEEK, EIGHT, IdentifyTest, LEFT, LIST, MADE, STAND_IN, SYMMETRY, TABLE
 
 
 class OneDiagram(IdentifyTest):
@@ -126,61 +46,6 @@ class OneDiagram(IdentifyTest):
         self.assertTrue(said.startswith("identify.py: candidates: 4_1"), said)
 
 
-class Likelihood(IdentifyTest):
-    def parts(self, *said):
-        known = KnotTable(self.table, self.list)
-        return known, [known.parts_of(one) for one in said]
-
-    def test_other_alexander_polynomials_come_last_and_have_no_walk(self):
-        known, (trefoil, eight, mirrored) = self.parts("3_1", "4_1", "4_1 mirrored")
-        self.assertEqual(by_likelihood(EIGHT, known, [trefoil, eight, mirrored], trefoil), ([eight, mirrored], [trefoil]))
-        self.assertEqual(by_likelihood(EIGHT, known, [trefoil, eight, mirrored], mirrored), ([mirrored, eight], [trefoil]))
-
-    def test_an_expected_knot_comes_by_all_rounds_before_others(self):
-        likely, rounds = ["a", "b", "c"], ((1, 5), (2, 50), (3, 500))
-        found = []
-        for effort, few in rounds_of(likely, "b", rounds):
-            found.append((effort[0], few))
-            if effort == (1, 5) and "a" in few:
-                likely.remove("a")
-        self.assertEqual(found, [(1, ["b"]), (2, ["b"]), (3, ["b"]), (1, ["a", "c"]), (2, ["c"]), (3, ["c"])])
-        self.assertEqual([few for _, few in rounds_of(["a", "b"], None, rounds) if few], [["a", "b"]] * 3)
-
-    def test_turns_of_one_knot_are_all_likely(self):
-        known, (eight, mirrored) = self.parts("4_1", "4_1 mirrored")
-        self.assertEqual(by_likelihood(LEFT, known, [eight, mirrored], None), ([eight, mirrored], []))
-
-    def test_sums_of_one_polynomial_stay_in_their_order(self):
-        # Both sums have nine columns and one polynomial, so the table's order stays.
-        known, (left, both) = self.parts("3_1 # 3_1", "3_1 # 3_1 mirrored")
-        grid = sum_of_grids(LEFT, LEFT.mirror())
-        self.assertEqual(by_likelihood(grid, known, [left, both], None), ([left, both], []))
-
-
-class Alexander(unittest.TestCase):
-    def test_the_polynomial_at_one_place_is_that_of_the_word(self):
-        for braid, polynomial in ((Braid(2, (1, 1, 1)), (1, -1, 1)), (Braid(3, (1, -2, 1, -2)), (-1, 3, -1)), (Braid(2, (1,) * 5), (1, -1, 1, -1, 1)),
-                                  (Braid(3, (-1, -1, -1, -2, 1, -2)), (2, -3, 2)), (Braid(1, ()), (1,))):
-            middle = len(polynomial) // 2
-            value = sum(count * pow(PLACE, power - middle, PRIME) for power, count in enumerate(polynomial))
-            self.assertEqual(alexander_square(grid_of(braid)), value * value % PRIME, braid)
-
-    def test_moves_and_turns_keep_it_and_sums_multiply_it(self):
-        dice = random.Random(1)
-        for grid in (LEFT, EIGHT):
-            due = alexander_square(grid)
-            for turned in (grid.mirror(), grid.reverse(), shifted_to(grid, 2, 3, "o")):
-                self.assertEqual(alexander_square(turned), due)
-            here = grid
-            for _ in range(60):
-                move = ("stabilise", dice.randrange(here.size), dice.choice("xo"), dice.choice(CORNERS)) if here.size < 9 else (
-                    "exchange", dice.choice(("columns", "rows")), dice.randrange(here.size - 1))
-                with contextlib.suppress(Illegal):
-                    here = made(here, move)
-            self.assertEqual((here.size, alexander_square(here)), (9, due))
-            self.assertEqual(alexander_square(sum_of_grids(here, EIGHT)), due * alexander_square(EIGHT) % PRIME)
-
-
 class Certificates(IdentifyTest):
     def test_a_certificate_leads_to_the_diagram_of_the_table(self):
         folder = os.path.join(self.folder, "certificates")
@@ -201,7 +66,7 @@ class BadInput(IdentifyTest):
     def test_each_has_its_own_line(self):
         self.assertEqual(self.answer(""), "there is no diagram: the file is empty\n")
         self.assertEqual(self.answer("x 0 1\no 0 1\n"), "line 2: column 0 has its X and its O in one cell\n")
-        self.assertIn("a Gauss code, which is not read", self.answer("[1,-1,2,-2,3,-3]\n"))
+        self.assertIn("a Gauss code, and not a braid word; --as gauss takes it for one", self.answer("[1,-1,2,-2,3,-3]\n"))
         self.assertIn("at most 48 are taken", self.answer(f"braid 2 {'1 ' * 45}\n"))
 
     def test_a_file_with_several_codes_is_no_diagram(self):
@@ -389,10 +254,43 @@ class GoingOn(IdentifyTest):
         self.identify(self.given, "--out", self.out)
         self.assertEqual([row["answer"] for row in self.rows(self.out)], ["3_1", "4_1", "refused", "unknot"])
 
+    def test_cut_at_each_place_of_a_row_it_is_done_again(self):
+        self.identify(self.given, "--out", self.out)
+        whole, done = self.read("out.csv"), self.calls()
+        begin, end = (sum(map(len, whole.splitlines(keepends=True)[:lines])) for lines in (1, 2))
+        for size in {0, begin - 1, begin, *range(begin + 1, end, 20), end - 1, end}:
+            self.put("out.csv", whole[:size])
+            self.assertEqual(self.identify(self.given, "--out", self.out)[0], 1)
+            self.assertEqual(self.read("out.csv"), whole)
+            # Two other rows are asked of, and the first where it isn't whole.
+            done += 2 + (size < end)
+            self.assertEqual(self.calls(), done)
+
+    def test_rows_that_are_alike_are_done_once_more_is_known(self):
+        given = self.put("twice.csv", 'name,arc_notation\na,"{{1,2},{2,1}}"\na,"{{1,2},{2,1}}"\n')
+        words = (given, "--out", self.out, "--certificates", os.path.join(self.folder, "certificates"))
+        self.identify(*words)
+        whole, done = self.read("out.csv"), self.calls()
+        self.identify(*words)
+        self.assertEqual((self.read("out.csv"), self.calls()), (whole, done))
+        self.put("out.csv", "".join(whole.splitlines(keepends=True)[::2]))
+        self.identify(*words)
+        self.assertEqual((self.read("out.csv"), self.calls()), (whole, done + 1))
+
+    def test_what_another_program_made_of_the_file_is_taken(self):
+        self.identify(self.given, "--out", self.out)
+        whole, done = self.read("out.csv"), self.calls()
+        with open(self.out, "w", encoding="utf-8", newline="") as out:
+            csv.writer(out, quoting=csv.QUOTE_ALL, lineterminator="\r\n").writerows(csv.reader(io.StringIO(whole)))
+        self.identify(self.given, "--out", self.out)
+        self.assertEqual((self.read("out.csv"), self.calls()), (whole, done))
+
     def test_a_file_of_another_kind_is_left_as_it_is(self):
-        self.put("out.csv", "something,else\n1,2\n")
-        self.assertEqual(self.identify(self.given, "--out", self.out)[0], 2)
-        self.assertEqual(self.read("out.csv"), "something,else\n1,2\n")
+        for text in ("something,else\n1,2\n", "something", "a\0b\n", "name,answer,certificate,said\n", "name,answer,certificate,said,sha256,more\n"):
+            self.put("out.csv", text)
+            refused = f"identify.py: {self.out}: the file has other columns than name, answer, certificate, said, sha256: name another by --out\n"
+            self.assertEqual(self.identify(self.given, "--out", self.out), (2, "", refused))
+            self.assertEqual(self.read("out.csv"), text)
 
 
 class Published(IdentifyTest):
@@ -422,194 +320,6 @@ class Published(IdentifyTest):
         self.assertEqual(rulings[5:], ["wrong: it may be unknot", "open"])
 
 
-class KnotTableScript(IdentifyTest):
-    def make(self, *words):
-        return self.call("knot_table.py", *words, self.table, "--list", self.list)
-
-    def test_numbers_are_counted_anew_and_compared(self):
-        self.assertEqual(self.make("numbers", "--all"), (0, f"{self.table}: numbers: as in the file\n", ""))
-        self.put("knots.csv", TABLE.replace("{{2,5},{3,1},{4,2},{5,3},{1,4}}", "{{4,1},{3,5},{2,4},{1,3},{5,2}}"))
-        status, out, said = self.make("numbers")
-        self.assertEqual((status, out), (1, f"{self.table}: numbers: 1 lines differ\n"))
-        self.assertIn("3_1: the numbers differ from those in the file", said)
-        self.assertEqual(self.read("knots.numbers.txt"), MADE[0])
-
-    def test_symmetries_that_numbers_rule_out(self):
-        self.assertEqual(self.make("symmetry", "--rounds", "0", "--write")[0], 0)
-        rows = {row["name"]: row for row in self.rows(os.path.join(self.folder, "knots.symmetry.csv"))}
-        self.assertEqual(rows["3_1"]["mirror"], "different by dihedral 3 with a cocycle mod 3")
-        self.assertEqual((rows["3_1"]["reverse"], rows["3_1"]["mirror_reverse"]), ("open", "different by dihedral 3 with a cocycle mod 3"))
-        self.assertEqual(set(rows["4_1"].values()), {"4_1", "open"})
-        # What is known leaves out turns that need no walk.
-        known = KnotTable(self.table, self.list).knots
-        self.assertEqual(known["3_1"].different, (Turn(True), Turn(True, True)))
-        self.assertEqual(len(known["4_1"].turns()), 4)
-
-    def test_further_lists_and_walks_for_symmetries(self):
-        # The rows of this list distinguish nothing from its mirror image, and of all turns shifts join 4_1 to its reversed mirror image alone.
-        self.list = self.put("short.txt", "quandle dihedral 3\n")
-        self.assertEqual(self.make("numbers", "--write")[0], 0)
-        mirrors, target = self.put("mirrors.txt", "quandle dihedral 3\nshadow mochizuki\n"), os.path.join(self.folder, "knots.symmetry.csv")
-        words = ("symmetry", "--mirrors", mirrors, "--rounds", "1", "--write", "--book", os.path.join(self.folder, "book"))
-        self.assertEqual(self.make(*words)[0], 0)
-        rows = [list(row.values()) for row in self.rows(target)]
-        self.assertEqual(rows, [["3_1", "different by mirrors", "open", "different by mirrors"], ["4_1", "open", "open", "equal"],
-                                ["5_1", "open", "open", "open"]])
-        # What is in the book is neither counted nor walked again.
-        os.unlink(target)
-        calls = self.counted()
-        self.assertEqual(self.make(*words)[0], 0)
-        self.assertEqual([list(row.values()) for row in self.rows(target)], rows)
-        self.assertEqual(self.counted(), calls)
-        # Where both mirror images are known, their list is asked nothing.
-        self.assertEqual(self.make("symmetry", "--mirrors", mirrors, "--rounds", "0")[0], 0)
-        self.assertEqual(self.counted() - calls, 2 * 2)  # 4_1 and 5_1, and the mirror image of each
-
-    def test_further_rounds_have_other_seeds(self):
-        self.assertEqual(rounds_to(2), list(ROUNDS[:2]))
-        self.assertEqual(rounds_to(6), [*ROUNDS, (5, 8_000_000), (6, 8_000_000)])
-
-    def counted(self):
-        """How many times the stand-ins were called to count or to walk."""
-        with open(self.log, encoding="utf-8") as log:
-            return sum(line.startswith(("numbers", "seek")) for line in log)
-
-    def test_turns_that_make_one_knot_are_tried_once(self):
-        self.put("knots.symmetry.csv", SYMMETRY.replace("5_1,different by x,equal,different by x", "5_1,open,open,equal"))
-        known = KnotTable(self.table, self.list)
-        self.assertEqual([[turn.words for turn in knot.turns()] for knot in known.knots.values()], [["", " mirrored"], [""], ["", " mirrored"]])
-        self.assertEqual(known.parts_of("3_1 reversed"), (("3_1", Turn()),))
-        self.assertEqual(known.parts_of("5_1 reversed"), (("5_1", Turn(True)),))
-
-
-class Rows(unittest.TestCase):
-    def setUp(self):
-        self.text = common.read("tables", "list.txt")
-        self.blocks = blocks_of(self.text)
-
-    def test_blocks_are_those_of_the_list(self):
-        self.assertEqual(len(self.blocks), len(re.findall("^quandle", self.text, re.M)))
-        self.assertEqual([(block.order, block.weights, block.is_shadow) for block in self.blocks if block.order in (4, 12, 31)],
-                         [(4, 0, False), (12, 5, False), (31, 31, True)])
-
-    def test_a_line_of_a_row_is_read_as_it_was_written(self):
-        blocks = blocks_of("quandle dihedral 3\nquandle tetrahedral\nquandle dihedral 3\nshadow mochizuki\nquandle dihedral 5\n")
-        for row in (((9,), (16,), (9, 0, 18), (5,)), ((3,), None, (9, 0, 0), (25,)), ((3,), (4,), (9, 18, 0), None)):
-            self.assertEqual(row_in(text_of(row, blocks), blocks), row)
-        self.assertEqual(text_of(((9,), None, (9, 18, 0), (5,)), blocks), "9/?/9 18/")
-
-    @unittest.skipUnless(BUILT, "knot isn't built")
-    def test_a_sum_has_the_numbers_that_are_made_of_its_parts(self):
-        trefoil, eight, torus = Braid(2, (1, 1, 1)), Braid(3, (1, -2, 1, -2)), Braid(3, (1, 2) * 4)
-        sums = ((trefoil, trefoil, Braid(3, (1, 1, 1, 2, 2, 2))), (trefoil, trefoil.mirror(), Braid(3, (1, 1, 1, -2, -2, -2))),
-                (trefoil, eight, Braid(4, (1, 1, 1, 2, -3, 2, -3))), (torus, eight, None))
-        for first, second, word in sums:
-            made = of_sum(row_of(first, self.text), row_of(second, self.text), self.blocks)
-            drawn = sum_of_grids(grid_of(first), grid_of(second))
-            self.assertTrue(may_be_one(made, row_of(drawn, self.text)))
-            if word:
-                self.assertTrue(may_be_one(made, row_of(word, self.text)))
-
-    @unittest.skipUnless(BUILT, "knot isn't built")
-    def test_the_reversed_mirror_image_has_the_negative_weights(self):
-        # 8_17 isn't its own reverse.
-        for braid in (Braid(2, (1, 1, 1)), Braid(3, (1, 1, -2, 1, -2, 1, -2, -2))):
-            self.assertTrue(may_be_one(opposite(row_of(braid, self.text), self.blocks), row_of(braid.mirror().reverse(), self.text)))
-
-
-class Sums(unittest.TestCase):
-    def test_the_jones_polynomial_of_a_sum_is_the_product(self):
-        from test_turn import jones
-        for first in (LEFT, LEFT.mirror(), EIGHT):
-            for second in (LEFT, EIGHT.reverse()):
-                whole = sum_of_grids(first, second)
-                self.assertEqual(whole.size, first.size + second.size - 1)
-                self.assertEqual(jones(whole), knot_invariants.poly_times(jones(first), jones(second)))
-
-
-@unittest.skipUnless(os.path.isfile(TO_12), "the table isn't there")
-class Tables(unittest.TestCase):
-    def test_there_are_as_many_prime_knots_as_are_known(self):
-        counts = collections.Counter(knot.crossings for knot in read_knots(TO_12).values())
-        self.assertEqual([counts[crossings] for crossings in range(3, 13)], [1, 1, 2, 3, 7, 21, 49, 165, 552, 2176])
-        self.assertEqual(list(read_knots(TO_10).values()), [knot for knot in read_knots(TO_12).values() if knot.crossings <= 10])
-
-    def test_codes_and_grids_are_knots_of_so_many_crossings(self):
-        with open(TO_12, encoding="utf-8", newline="") as source:
-            for row in csv.DictReader(source):
-                rows = nested(row["pd_notation"].removeprefix("PD"))
-                self.assertEqual(len(rows), int(row["crossings"]), row["name"])
-                self.assertEqual(sorted(edge for one in rows for edge in one), sorted([*range(1, 2 * len(rows) + 1)] * 2), row["name"])
-
-    def test_names_are_those_of_the_words_to_eight_crossings(self):
-        # By the Jones polynomial, which all of these differ by, up to mirror images.
-        with open(TO_10, encoding="utf-8", newline="") as source:
-            codes = {row["name"]: nested(row["pd_notation"].removeprefix("PD")) for row in csv.DictReader(source)}
-        with open(os.path.join(common.LISTS, "knots-to-8.csv"), encoding="utf-8", newline="") as source:
-            for row in csv.DictReader(source):
-                letters = tuple(map(int, re.findall(r"-?\d+", row["braid"])))
-                due = knot_invariants.jones_polynomial(max(map(abs, letters)) + 1, letters)
-                self.assertIn(jones_of_code(codes[row["name"]]), (due, {-power: count for power, count in due.items()}), row["name"])
-
-    def test_the_words_of_the_table_to_ten_mean_the_mirror_images_that_are_drawn(self):
-        with open(TO_10, encoding="utf-8", newline="") as source:
-            for row in csv.DictReader(source):
-                if row["braid_notation"] and int(row["crossings"]) < 9:
-                    strands, letters = nested(row["braid_notation"])
-                    code = nested(row["pd_notation"].removeprefix("PD"))
-                    self.assertEqual(jones_of_code(code), knot_invariants.jones_polynomial(strands, letters), row["name"])
-
-    def test_files_belong_together(self):
-        for path in (TO_10, TO_12):
-            self.assertEqual(len(KnotTable(path).rows), len(read_knots(path)))
-
-    def test_names_in_their_spellings(self):
-        known = KnotTable(TO_12)
-        for said, name in (("10_132", "10_132"), ("11n34", "11n34"), ("K11n34", "11n34"), ("11n_34", "11n34"), ("k10n31", "10_161")):
-            self.assertEqual(known.parts_of(said), ((name, Turn()),))
-        self.assertEqual(known.parts_of("3_1 mirrored # 7_5"), ((("3_1", Turn(True))), ("7_5", Turn())))
-        self.assertEqual((known.parts_of("unknot"), known.parts_of("10_166"), known.parts_of("3_2")), ((), None, None))
-
-
-@unittest.skipUnless(os.path.isfile(TO_12[:-4] + ".symmetry.csv"), "the symmetries aren't there")
-class Symmetries(unittest.TestCase):
-    def setUp(self):
-        self.knots = read_knots(TO_12).values()
-
-    def at_most(self, known, is_such):
-        """No more knots are such than are known, and of the others as many may be."""
-        every = collections.Counter(knot.crossings for knot in self.knots)
-        shown = collections.Counter(knot.crossings for knot in self.knots if is_such(knot) is True)
-        ruled_out = collections.Counter(knot.crossings for knot in self.knots if is_such(knot) is False)
-        for crossings, count in zip(range(3, 13), known):
-            self.assertLessEqual(shown[crossings], count)
-            self.assertLessEqual(ruled_out[crossings], every[crossings] - count)
-
-    def test_as_many_are_their_own_mirror_images_as_are_known(self):
-        both = {Turn(True), Turn(True, True)}
-        self.at_most((0, 1, 0, 1, 0, 5, 0, 13, 0, 58), lambda knot: bool(both & set(knot.same)) or (False if both <= set(knot.different) else None))
-
-    def test_as_many_are_their_own_reverses_as_are_known(self):
-        turn = Turn(False, True)
-        self.at_most((1, 1, 2, 3, 7, 20, 47, 132, 365, 1032), lambda knot: turn in knot.same or (False if turn in knot.different else None))
-
-    def test_two_symmetries_make_the_third(self):
-        for knot in self.knots:
-            self.assertNotEqual(len(knot.same), 2, knot.name)
-            self.assertFalse(len(knot.same) == len(knot.different) == 1, knot.name)
-
-    def test_the_table_to_ten_has_the_same(self):
-        self.assertEqual([(knot.same, knot.different) for knot in read_knots(TO_10).values()],
-                         [(knot.same, knot.different) for knot in self.knots if knot.crossings <= 10])
-
-
-def jones_of_code(rows):
-    """The Jones polynomial of a code of one component whose edges ascend along it. A crossing is positive where the strand over leaves on the
-    second edge."""
-    count = 2 * len(rows)
-    return knot_invariants.jones_of_rows(rows, [1 if (j - l) % count == 1 else -1 for _, j, _, l in rows])
-
-
 @unittest.skipUnless(BUILT and os.access(BUILT_SEEK, os.X_OK), "the programs aren't built")
 class WithThePrograms(IdentifyTest):
     def identify(self, *words, text=""):
@@ -622,6 +332,24 @@ class WithThePrograms(IdentifyTest):
 
     def test_the_trefoil_by_its_dt_code(self):
         self.assertEqual(self.identify("--dt", "4 6 2"), (0, "3_1\n", "identify.py: a DT code doesn't distinguish it from its mirror image\n"))
+
+    def test_a_knot_by_its_gauss_code(self):
+        told = "identify.py: a Gauss code doesn't distinguish it from its mirror image\n"
+        for words, text in ((("--gauss", "1 -2 3 -1 2 -3"), ""), (("--gauss", "-1,2,-3,1,-2,3"), ""), (("-",), "GaussCode[1,-2,3,-1,2,-3]\n"),
+                            (("--as", "gauss", "-"), "[1,-2,3,-1,2,-3]\n")):
+            self.assertEqual(self.identify(*words, text=text), (0, "3_1\n", told), words)
+        for text, name in (("O1+U2+O3+U1+O2+U3+", "3_1 mirrored"), ("[[[1,-2,3,-1,2,-3]],[-1,-1,-1]]", "3_1")):
+            self.assertEqual(self.identify("-", text=text), (0, f"{name}\n", ""))
+
+    def test_a_table_of_gauss_codes(self):
+        given = self.put("given.csv", 'name,Gauss Notation\n4_1,"{-1, 2, -3, 1, -4, 3, -2, 4}"\n3_1,O1+U2+O3+U1+O2+U3+\n'
+                                      'hopf,"{{1, -2}, {2, -1}}"\nodd,"{1, -2}"\n')
+        status, out, _ = self.identify(given, "--expect", "name")
+        self.assertEqual((status, [(row["answer"], row["ruling"], row["said"]) for row in csv.DictReader(out.splitlines())]),
+                         (1, [("4_1", "right", "a Gauss code doesn't distinguish it from its mirror image"),
+                              ("3_1 mirrored", "mirrored", "it isn't known whether that is another knot"),
+                              ("link of 2 components", "wrong: it is a link of 2 components", "no knot of the table is called 'hopf'"),
+                              ("refused", "refused", "the crossing 1 is passed once, and not twice")]))
 
     def test_sums_in_their_mirror_images(self):
         for word, name in (("3 1 1 1 2 2 2", "3_1 mirrored # 3_1 mirrored"), ("3 -1 -1 -1 2 2 2", "3_1 # 3_1 mirrored"), ("4 -1 -1 -1 2 -3 2 -3", "3_1 # 4_1")):
@@ -659,18 +387,6 @@ class WithThePrograms(IdentifyTest):
         self.assertEqual(done.returncode, 0, done.stdout + done.stderr)
         self.assertIn("9 disguised diagrams: 9 right; 9 certificates accepted", done.stdout)
         self.assertIn("6 published identifications with 2 errors: 2 of these came back, and 0 others", done.stdout)
-
-    def test_symmetries_that_walks_show(self):
-        kept = os.path.join(self.folder, "kept")
-        words = ("knot_table.py", "symmetry", self.table, "--list", self.list, "--rounds", "2", "--write", "--certificates", kept)
-        self.assertEqual(self.call(*words, KNOT=BUILT, SEEK=BUILT_SEEK)[0], 0)
-        by = "different by dihedral 3 with a cocycle mod 3"
-        rows = [tuple(row.values()) for row in self.rows(os.path.join(self.folder, "knots.symmetry.csv"))]
-        self.assertEqual(rows, [("3_1", by, "equal", by), ("4_1", "equal", "equal", "equal"), ("5_1", "open", "equal", "open")])
-        eight = KnotTable(self.table, self.list).knots["4_1"].grid
-        for name, first, second in (("4_1-mirror", eight, eight.mirror()), ("4_1-reverse", eight, eight.reverse())):
-            found = Certificate.load(os.path.join(kept, f"{name}.txt"))
-            self.assertEqual((found.first, found.second, found.is_equal, found.check()), (first, second, True, True))
 
     def test_the_module_answers_a_certificate_that_the_checker_accepts(self):
         found = identify(Braid(4, (1, 1, 2, -1, -3, 2, -3)), KnotTable(self.table, self.list))

@@ -152,10 +152,11 @@ class Installed(unittest.TestCase):
                      "share/bash-completion/completions/knot", "share/zsh/site-functions/_seek", "share/fish/vendor_completions.d/knot.fish",
                      "share/knot-workbench/quandles/list-64.txt", "share/knot-workbench/tables/prime-knots-to-12.csv", "share/knot-workbench/quandles/weights/T5.txt",
                      "share/knot-workbench/quandles/weights/list.txt", "share/knot-workbench/installed.txt", "share/knot-workbench/tools/batch.py",
-                     "share/knot-workbench/tools/lib/calls.py", "share/knot-workbench/tools/stages.txt", "share/doc/knot-workbench/docs/GUIDE.md",
+                     "share/knot-workbench/tools/lib/calls/calls.py", "share/knot-workbench/tools/stages.txt", "share/doc/knot-workbench/docs/GUIDE.md",
                      "share/doc/knot-workbench/examples/check/unknot-shifted.txt", "bin/knot-batch", "bin/knot-census", "bin/knot-table", "bin/knot-identify",
                      "bin/knot-draw", "bin/knot-page", "bin/knot-invariants", "bin/knot-code", "bin/knot-turn", "bin/knot-join", "bin/knot-cocycles", "bin/knot-pieces"):
             self.assertIn(path, files)
+        self.assertFalse([path for path in files if "/make/" in path])
         self.assertEqual(self.called("--uninstall"), (0, f"{len(files) - 1} files removed from {self.prefix}\n", ""))
         self.assertFalse(os.path.exists(self.prefix))
         status, out, said = self.called("--uninstall")

@@ -5,8 +5,9 @@ import unittest
 
 import common
 import reader
-from knot_workbench.diagrams import CORNERS, Braid, Grid, closure, diagram_text, grid_text, move_text
+from knot_workbench.diagrams import CORNERS, Braid, Grid, closure, diagram_text, grid_text
 from knot_workbench.moves import Illegal, made, tidied, undone
+from knot_workbench.texts import move_text
 
 TREFOIL = Grid((4, 3, 2, 1, 0), (2, 1, 0, 4, 3))
 

@@ -1,11 +1,14 @@
-"""Tests of tools/lib/pd_codes.py: the PD codes that are made of DT codes and of passages, by invariants that are computed here."""
+"""Tests of python/knot_workbench/codes/planar.py: the PD codes that are made of DT codes and of passages, by invariants that are computed here."""
+import importlib
 import itertools
 import random
 import unittest
 
-import common
+importlib.import_module("common")  # (it knows where the scripts are)
 import knot_invariants
-from lib import crossing_codes, diagrams, pd_codes
+from lib.codes import crossing_codes
+from knot_workbench import diagrams
+from knot_workbench.codes import BadCode, planar
 
 # DT codes as tables have them, and braid words of these knots and links.
 KNOTS = (
@@ -77,35 +80,35 @@ class DTCodes(unittest.TestCase):
     def test_knots_of_tables(self):
         for dt, braid in KNOTS:
             with self.subTest(dt):
-                made = pd_codes.rows_of_dt(dt)
+                made = planar.rows_of_dt(dt)
                 found = knot_invariants.jones_of_rows(made.rows, signs_of(made.rows))
                 wanted = knot_invariants.jones_polynomial(*braid)
                 self.assertIn(found, (wanted, mirrored(wanted)))
                 self.assertEqual(made.parts, 1)
-                self.assertEqual(pd_codes.components_of(made.rows), len(dt))
+                self.assertEqual(planar.components_of_code(made.rows), len(dt))
 
     def test_a_sum_has_a_part_for_each_summand(self):
-        self.assertEqual(pd_codes.rows_of_dt([[4, 6, 2, 10, 12, 8]]).parts, 2)
+        self.assertEqual(planar.rows_of_dt([[4, 6, 2, 10, 12, 8]]).parts, 2)
 
     def test_what_is_no_code_is_refused(self):
         for components, reason in (([[4, 6]], "each even number from 2 to 4 once"), ([[3, 1, 2]], "each even number from 2 to 6 once"),
                                    ([[4, 6, 8, 10, 2]], "no diagram in the plane has this code")):
             with self.subTest(components):
-                self.assertRaisesRegex(pd_codes.CodeError, reason, pd_codes.rows_of_dt, components)
+                self.assertRaisesRegex(BadCode, reason, planar.rows_of_dt, components)
 
     def test_a_code_is_refused_exactly_where_no_turn_of_its_crossings_lies_in_the_plane(self):
         refused = 0
         for evens in itertools.permutations(range(2, 11, 2)):
-            passages = sorted([(2 * crossing + 1, crossing, pd_codes.OVER) for crossing in range(5)]
-                              + [(even, crossing, pd_codes.UNDER) for crossing, even in enumerate(evens)])
+            passages = sorted([(2 * crossing + 1, crossing, planar.OVER) for crossing in range(5)]
+                              + [(even, crossing, planar.UNDER) for crossing, even in enumerate(evens)])
             edges = {(crossing, way): (place, place % 10 + 1) for place, crossing, way in passages}
-            turns = ([[i, l, k, j], [i, j, k, l]] for (i, k), (j, l) in ((edges[c, pd_codes.UNDER], edges[c, pd_codes.OVER]) for c in range(5)))
+            turns = ([[i, l, k, j], [i, j, k, l]] for (i, k), (j, l) in ((edges[c, planar.UNDER], edges[c, planar.OVER]) for c in range(5)))
             lies = any(faces_of(rows) == 7 for rows in itertools.product(*turns))
             try:
-                made = pd_codes.rows_of_dt([list(evens)])
+                made = planar.rows_of_dt([list(evens)])
                 self.assertTrue(lies, evens)
                 self.assertEqual(faces_of(made.rows), 7, evens)
-            except pd_codes.CodeError:
+            except BadCode:
                 self.assertFalse(lies, evens)
                 refused += 1
         self.assertEqual(refused, 7)
@@ -118,8 +121,8 @@ class Passages(unittest.TestCase):
             strands = dice.randint(2, 5)
             letters = [dice.choice((-1, 1)) * dice.randint(1, strands - 1) for _ in range(dice.randint(1, 11))]
             code = code_of(strands, letters)
-            passages = [[(crossing - 1, pd_codes.OVER if is_over else pd_codes.UNDER) for is_over, crossing, _ in component] for component in code.components]
-            made = pd_codes.embedded(passages)
+            passages = [[(crossing - 1, planar.OVER if is_over else planar.UNDER) for is_over, crossing, _ in component] for component in code.components]
+            made = planar.embedded(passages)
             self.assertEqual(faces_of(made.rows), len(made.rows) + 2 * parts_of(code), letters)
             self.assertGreaterEqual(made.parts, parts_of(code))
             # The passages are those that were given.
@@ -131,7 +134,7 @@ class Passages(unittest.TestCase):
         found, base = {}, 0
         for component in passages:
             for place, (crossing, way) in enumerate(component):
-                if way == pd_codes.UNDER:
+                if way == planar.UNDER:
                     found[crossing] = (base + place + 1, base + (place + 1) % len(component) + 1)
             base += len(component)
         return found
@@ -139,7 +142,7 @@ class Passages(unittest.TestCase):
     def test_prime_diagrams_come_back_up_to_the_mirror_image(self):
         for strands, letters in ((3, (1, 1, 1, -2, 1, -2)), (3, (1, -2, 1, -2)), (2, (1, 1, 1, 1)), (4, (1, 1, 2, -1, -3, 2, -3))):
             code = code_of(strands, letters)
-            made = pd_codes.embedded([[(crossing - 1, int(is_over)) for is_over, crossing, _ in component] for component in code.components])
+            made = planar.embedded([[(crossing - 1, int(is_over)) for is_over, crossing, _ in component] for component in code.components])
             wanted = knot_invariants.jones_polynomial(strands, letters)
             self.assertEqual(made.parts, 1)
             self.assertIn(knot_invariants.jones_of_rows(made.rows, signs_of(made.rows)), (wanted, mirrored(wanted)))
@@ -147,13 +150,13 @@ class Passages(unittest.TestCase):
 
 class Texts(unittest.TestCase):
     def test_the_text_is_a_code(self):
-        self.assertEqual(pd_codes.text_of([(4, 1, 3, 2), [2, 3, 1, 4]], 1), "crossings 2\nX[4,1,3,2]\nX[2,3,1,4]\nloops 1\n")
+        self.assertEqual(planar.planar_text([(4, 1, 3, 2), [2, 3, 1, 4]], 1), "crossings 2\nX[4,1,3,2]\nX[2,3,1,4]\nloops 1\n")
 
     def test_components_are_counted(self):
-        self.assertEqual(pd_codes.components_of([[5, 3, 6, 2], [1, 5, 2, 4], [3, 1, 4, 6]]), 1)
-        self.assertEqual(pd_codes.components_of([[4, 1, 3, 2], [2, 3, 1, 4]]), 2)
-        self.assertEqual(pd_codes.components_of([[1, 1, 2, 2]]), 1)
-        self.assertEqual(pd_codes.components_of([]), 0)
+        self.assertEqual(planar.components_of_code([[5, 3, 6, 2], [1, 5, 2, 4], [3, 1, 4, 6]]), 1)
+        self.assertEqual(planar.components_of_code([[4, 1, 3, 2], [2, 3, 1, 4]]), 2)
+        self.assertEqual(planar.components_of_code([[1, 1, 2, 2]]), 1)
+        self.assertEqual(planar.components_of_code([]), 0)
 
 
 if __name__ == "__main__":

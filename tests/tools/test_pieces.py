@@ -12,8 +12,8 @@ import unittest
 from unittest import mock
 
 import common
-from lib import pieces_call
-from lib.whole_files import host_name
+from lib.calls.whole_files import host_name
+from lib.pieces import call as pieces_call
 
 SCRIPT = os.path.join(common.TOOLS, "pieces.py")
 SIGNALS = (signal.SIGINT, signal.SIGTERM, signal.SIGHUP)

@@ -1,4 +1,4 @@
-"""The programs of tools/ as a whole: which files are programs, and what all of them answer."""
+"""The programs of tools/ and quandles/make as a whole: which files are programs, and what all of them answer."""
 import errno
 import os
 import stat
@@ -15,34 +15,46 @@ FULL = os.strerror(errno.ENOSPC)
 # Calls that read standard input, and what they read.
 READERS = (("draw.py", [], TREFOIL), ("show.py", [], TREFOIL + TREFOIL + "equal 0\n"), ("turn.py", ["--mirror"], TREFOIL), ("to_regina.py", ["--print"], CODE),
            ("to_sage.py", ["--print"], CODE), ("invariants.py", [], TREFOIL),
-           ("to_snappy.py", ["--print"], CODE), ("cocycles.py", ["weights", SMALL, "--moduli", "2"], TREFOIL + TREFOIL),
+           ("to_snappy.py", ["--print"], CODE), ("cocycle_tables.py", ["weights", SMALL, "--moduli", "2"], TREFOIL + TREFOIL),
            ("cocycles.py", ["find", os.path.join(common.LISTS, "weights", "T5.txt")], TREFOIL + "braid 2 -1 -1 -1\n"))
 # Calls that write to standard output, and what they read.
-WRITERS = READERS + (("cocycles.py", ["classes", SMALL, "--moduli", "2"], ""), ("quandles.py", ["pairs", common.KNOTS], ""), ("against_regina.py", ["--help"], ""),
+WRITERS = READERS + (("cocycle_tables.py", ["classes", SMALL, "--moduli", "2"], ""), ("quandles.py", ["pairs", common.KNOTS], ""), ("against_regina.py", ["--help"], ""),
                      ("draw.py", ["--help"], ""), ("man.py", ["--print", "knot.1"], ""), ("completions.py", ["--print", "_knot"], ""))
 
-PROGRAMS = sorted(name for name in os.listdir(common.TOOLS) if name.endswith(".py"))
+MAKE = os.path.join(common.LISTS, "make")
+MAKERS = ("cocycle_tables.py", "large_quandles.py", "quandles.py", "weight_tables.py")
+PROGRAMS = (*sorted(name for name in os.listdir(common.TOOLS) if name.endswith(".py")), *MAKERS)
+
+
+def path_of(name):
+    """The path of a program."""
+    return os.path.join(MAKE if name in MAKERS else common.TOOLS, name)
+
+
+def modules_below(folder):
+    """The files of Python below a folder that aren't programs, by their paths."""
+    return [os.path.join(place, name) for place, _, names in os.walk(folder) for name in names if name.endswith(".py") and name not in MAKERS]
 
 
 class Programs(unittest.TestCase):
-    def test_each_file_beside_the_library_is_a_program_with_help(self):
+    def test_each_file_beside_the_libraries_is_a_program_with_help(self):
         self.assertIn("draw.py", PROGRAMS)
         for name in PROGRAMS:
             with self.subTest(name):
-                path = os.path.join(common.TOOLS, name)
+                path = path_of(name)
                 self.assertTrue(os.stat(path).st_mode & stat.S_IXUSR)
-                self.assertTrue(common.read("tools", name).startswith("#!/usr/bin/env python3\n"))
-                status, out, said = common.run(name, "--help")
+                self.assertTrue(common.read(path).startswith("#!/usr/bin/env python3\n"))
+                status, out, said = common.run(path, "--help")
                 self.assertEqual((status, said), (0, ""))
                 self.assertTrue(out.startswith(f"usage: {name}"))
 
-    def test_the_library_has_no_program(self):
-        folder = os.path.join(common.TOOLS, "lib")
-        modules = [name for name in os.listdir(folder) if name.endswith(".py")]
-        self.assertIn("linear.py", modules)
-        for name in modules:
-            self.assertFalse(os.stat(os.path.join(folder, name)).st_mode & stat.S_IXUSR, name)
-            self.assertNotIn("__main__", common.read("tools", "lib", name))
+    def test_the_libraries_have_no_program(self):
+        modules = [*modules_below(os.path.join(common.TOOLS, "lib")), *modules_below(MAKE)]
+        self.assertIn(os.path.join(common.TOOLS, "lib", "cocycles", "linear.py"), modules)
+        self.assertIn(os.path.join(MAKE, "connected.py"), modules)
+        for path in modules:
+            self.assertFalse(os.stat(path).st_mode & stat.S_IXUSR, path)
+            self.assertNotIn("__main__", common.read(path))
 
     def test_programs_run_from_any_folder_and_by_a_link(self):
         for name in ("draw.py", "to_sage.py", "cocycles.py"):
@@ -57,7 +69,7 @@ class Streams(unittest.TestCase):
         """The status and standard error of a call by the shell, with a stream redirected. What argparse can't write at once it lets go."""
         line = f'exec "$@" {redirected}'
         buffered = {name: value for name, value in os.environ.items() if name != "PYTHONUNBUFFERED"}
-        done = common.call(["sh", "-c", line, "sh", sys.executable, os.path.join(common.TOOLS, name), *words], text=text, env=buffered)
+        done = common.call(["sh", "-c", line, "sh", sys.executable, path_of(name), *words], text=text, env=buffered)
         return done.returncode, done.stderr
 
     def test_a_closed_input_is_told(self):
@@ -85,7 +97,7 @@ class Streams(unittest.TestCase):
 
     def test_a_closed_standard_error_puts_no_word_into_the_output(self):
         name, words, text = READERS[-1]
-        done = common.call(["sh", "-c", 'exec "$@" 2>&-', "sh", sys.executable, os.path.join(common.TOOLS, name), *words], text=text)
+        done = common.call(["sh", "-c", 'exec "$@" 2>&-', "sh", sys.executable, path_of(name), *words], text=text)
         self.assertEqual(done.returncode, 0)
         self.assertTrue(done.stdout.startswith("# T5, found by"))
 
@@ -113,10 +125,10 @@ class Streams(unittest.TestCase):
 class OldPython(unittest.TestCase):
     def test_an_older_python_is_named(self):
         script = "import runpy, sys; sys.version_info = (3, 8, 18); sys.argv = sys.argv[1:]; runpy.run_path(sys.argv[0], run_name='__main__')"
-        for name in ("draw.py", "turn.py", "join.py", "cocycles.py", "quandles.py", "weight_tables.py", "large_quandles.py", "to_regina.py",
+        for name in ("draw.py", "turn.py", "join.py", "cocycles.py", *MAKERS, "to_regina.py",
                      "to_sage.py", "to_snappy.py", "against_regina.py", "show.py", "invariants.py", "man.py", "completions.py"):
-            path = os.path.join(common.TOOLS, name)
-            done = common.call([sys.executable, "-c", script, path, "--help"], env={**os.environ, "PYTHONPATH": common.TOOLS})
+            path = path_of(name)
+            done = common.call([sys.executable, "-c", script, path, "--help"], env={**os.environ, "PYTHONPATH": os.path.dirname(path)})
             self.assertEqual((done.returncode, done.stdout, done.stderr), (1, "", f"{name}: Python 3.9 or newer is needed, and this is Python 3.8\n"))
 
 

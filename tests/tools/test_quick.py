@@ -13,7 +13,7 @@ from common import LONG, ROOT, call, default_signals, scratch
 class Quick(unittest.TestCase):
     """A tree with the script alone, where each part is a script of a line or two."""
 
-    PARTS = ("tests/tools.sh", "tests/rows.py", "examples/shown.py", "examples/check.sh", "tests/round_trips.py")
+    PARTS = ("tests/tools.sh", "tests/rows.py", "examples/shown.py", "examples/check.sh", "tests/round_trips.py", "tests/linters.py")
 
     def setUp(self):
         self.top = scratch(self)
@@ -41,9 +41,9 @@ class Quick(unittest.TestCase):
         done = self.run_it()
         first, *lines, last = done.stdout.splitlines()
         self.assertEqual((done.returncode, done.stderr), (0, ""))
-        self.assertEqual(first, "5 parts, side by side: scripts, rows, shown, examples, round trips")
+        self.assertEqual(first, "6 parts, side by side: scripts, rows, shown, examples, round trips, linters")
         programs = " ".join(os.path.join(self.top, "crates", name, "out", name) for name in ("knot", "seek"))
-        self.assertEqual(sorted(line.split(": ")[0] for line in lines), ["examples", "round trips", "rows", "scripts", "shown"])
+        self.assertEqual(sorted(line.split(": ")[0] for line in lines), ["examples", "linters", "round trips", "rows", "scripts", "shown"])
         for line in lines:
             self.assertRegex(line, rf": {programs} \(\d+ s\)$")
         self.assertRegex(last, r"^all parts: ok, in \d+ s$")

@@ -96,13 +96,14 @@ class OldPythonTest(unittest.TestCase):
         for script in (FROM_TABLE, BATCH):
             with self.subTest(script):
                 text = f"import runpy, sys; sys.version_info = (3, 8, 10, 'final', 0); runpy.run_path({script!r}, run_name='__main__')"
-                done = subprocess.run([sys.executable, "-B", "-c", text], capture_output=True, text=True, check=False)
+                done = subprocess.run([sys.executable, "-B", "-c", text], capture_output=True, text=True, check=False,
+                                      env={**os.environ, "PYTHONPATH": os.path.dirname(script)})
                 name = os.path.basename(script)
                 self.assertEqual((done.returncode, done.stdout, done.stderr),
                                  (2, "", f"{name}: Python 3.9 or newer is needed, and this is Python 3.8\n"))
 
     def test_an_old_python_can_read_the_script(self):
-        for script in (FROM_TABLE, BATCH):
+        for script in (FROM_TABLE, BATCH, os.path.join(os.path.dirname(BATCH), "lib", "__init__.py")):
             with self.subTest(script), open(script, encoding="utf-8") as file:
                 tree = ast.parse(file.read(), feature_version=(3, 4))
                 self.assertEqual([node for node in ast.walk(tree) if isinstance(node, (ast.JoinedStr, ast.NamedExpr, ast.AnnAssign))], [])

@@ -9,7 +9,7 @@ from common import LISTS, ROOT, scratch
 
 sys.path.insert(0, os.path.join(ROOT, "bench"))
 import table  # noqa: E402
-from lib import diagrams  # noqa: E402
+from knot_workbench import diagrams  # noqa: E402
 
 
 def row(name, verdict, evidence="", check="accepted"):
@@ -19,14 +19,14 @@ def row(name, verdict, evidence="", check="accepted"):
 def shown(rows, found):
     """What is printed of rows, and whether anything is wrong."""
     with contextlib.redirect_stdout(io.StringIO()) as out:
-        is_wrong = table.show(rows, found, {(12, 5): "T5"})
+        is_wrong = table.show_pairs(rows, found, {(12, 5): "T5"})
     return out.getvalue(), is_wrong
 
 
 class Pairs(unittest.TestCase):
     def test_each_knot_meets_each_other_one_and_both_mirror_images(self):
         found = dict(table.pairs(list(table.knots())))
-        self.assertEqual([sum(pair.kind == kind for pair in found.values()) for kind in table.KINDS], [35, 595, 595])
+        self.assertEqual([sum(pair.kind == kind for pair in found.values()) for kind in table.PAIR_KINDS], [35, 595, 595])
         self.assertEqual(len({(pair.one, pair.two) for pair in found.values()}), 1225)
 
     def test_problems_have_both_diagrams_with_their_names(self):
@@ -49,7 +49,7 @@ class Evidence(unittest.TestCase):
         for said, wanted in (("dihedral 3", "dihedral 3"), ("numbers alexander 11 3: 121 / 11", "alexander 11 3, by numbers"),
                              ("numbers table 12 by weight: 12 0 0 0 60 / 12 60 0 0 0", "T5 with a cocycle mod 5"),
                              ("numbers table 6 by weight: 6 24 / 30 0", "table 6 with a cocycle mod 2"), ("linking: 1 1 / -1 -1", "linking")):
-            self.assertEqual(table.evidence_of(row("", "different", said), {(12, 5): "T5"}), wanted)
+            self.assertEqual(table.evidence_in_words(row("", "different", said), {(12, 5): "T5"}), wanted)
 
 
 class Shown(unittest.TestCase):

@@ -7,16 +7,16 @@ import unittest
 import common
 import plain_orbits
 import reader
+from lib.classes.certificate import MOST_BLOCKS, Head, Standing, certificates, head_text, needed, row_text
+from lib.classes.standing import Standings
+from lib.classes.written import Class
+from lib.sorting.apart import cost, numbers_in, seeds_of
+from lib.sorting.joins import Joins, KeyNumbers, Pair
+from lib.sorting.keys import form_of, grid_of_form
 from knot_workbench.diagrams import Braid, Grid, closure
-from knot_workbench.knot_rows import Block
-from knot_workbench.knot_tables import BOTH, MIRRORED as MIRROR, REVERSED, TURNS
 from knot_workbench.moves import back, made, tidied
-from lib.table_apart import cost, seeds_of, told_in
-from lib.table_certificate import MOST_BLOCKS, Head, Standing, certificates, head_text, needed, row_text
-from lib.table_joins import Joins, Numbers, Pair
-from lib.table_keys import form_of, grid_of_form
-from lib.table_standing import Standings
-from lib.table_written import Class
+from knot_workbench.tables.knots import BOTH, MIRRORED as MIRROR, REVERSED, TURNS
+from knot_workbench.tables.numbers import Block
 from reader.items import read_table
 from reader.numbers import numbers_of
 
@@ -188,8 +188,8 @@ class CertificateTest(unittest.TestCase):
         self.assertRaises(ValueError, head_text, Head(["dihedral 3\n"] * (MOST_BLOCKS + 1), [], []))
 
     def test_a_verdict_by_numbers_is_taken_apart(self):
-        self.assertEqual(told_in("certificate 3\ndifferent numbers table 1\n0\nseeds 0 1\nnumbers 9\nseeds 0\nnumbers 3\n"), ("table 1\n0\n", (9,), (3,)))
-        self.assertIsNone(told_in("certificate 2\ndifferent trivial 2\nlist 0\nlist 1\n0 0\n"))
+        self.assertEqual(numbers_in("certificate 3\ndifferent numbers table 1\n0\nseeds 0 1\nnumbers 9\nseeds 0\nnumbers 3\n"), ("table 1\n0\n", (9,), (3,)))
+        self.assertIsNone(numbers_in("certificate 2\ndifferent trivial 2\nlist 0\nlist 1\n0 0\n"))
 
     def test_a_braid_stands_as_a_diagram(self):
         grid = closure(Braid(2, [1, 1, 1]))[0]
@@ -224,8 +224,8 @@ class StandingsTest(unittest.TestCase):
     def test_what_a_search_told_apart_has_numbers_of_its_own_block(self):
         blocks = read_blocks()
         key = form_of(TREFOIL)
-        joins = Joins(Numbers({key: (((9,),), ((9,),))}, BLOCKS[:1]), None)
-        joins.told = {Pair(key, key, MIRROR): "told", Pair(key, key, BOTH): "told"}
+        joins = Joins(KeyNumbers({key: (((9,),), ((9,),))}, BLOCKS[:1]), None)
+        joins.verdicts = {Pair(key, key, MIRROR): "told", Pair(key, key, BOTH): "told"}
         one = Class(key)
         one.add("a", 3, "", "", REVERSED)
         standings = Standings([one], joins)
@@ -244,7 +244,7 @@ class StandingsTest(unittest.TestCase):
         self.assertEqual(head.classes[0].grid, REVERSED.of(grid_of_form(key)))
         (text, count), = certificates(head_text(head), standings.rows_of_turns())
         self.assertEqual((count, ruling(text)), (4, "accepted"))
-        self.assertEqual((standings.tell(), one.symmetry, one.type), ((1, []), {"mirror": "different", "reverse": "open", "mirror_reverse": "different"}, "open"))
+        self.assertEqual((standings.decide_symmetries(), one.symmetry, one.type), ((1, []), {"mirror": "different", "reverse": "open", "mirror_reverse": "different"}, "open"))
 
 
 def knows_tables():

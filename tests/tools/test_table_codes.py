@@ -1,4 +1,4 @@
-"""Tests of codes in tables: PD and DT codes are drawn by `knot grid`, and no code is read as a braid word, nor a braid word as a code."""
+"""Tests of codes in tables: they are drawn by `knot grid`, and no code is read as a braid word, nor a braid word as a code."""
 import csv
 import os
 import subprocess
@@ -6,17 +6,23 @@ import unittest
 
 import common
 import knot_invariants
+from lib.codes import crossing_codes
+from lib.tables import given as identify_inputs
+from knot_workbench import diagrams, texts
 from knot_workbench.code_grids import Grids
+from knot_workbench.codes.brackets import nested
+from knot_workbench.codes.reading import read_text
 from knot_workbench.diagrams import grid_text
-from lib import crossing_codes, diagrams, identify_inputs, pd_codes, table_entries
+from knot_workbench.tables import entries as table_entries
+from knot_workbench.tables.rows import column_of_diagrams
 from test_from_table import TREE, TableTest
 from test_pd_codes import signs_of
 
 STAND_IN = os.path.join(TREE, "tests", "tools", "stand_in_grid.py")
 TREFOIL = "x 4 3 2 1 0\no 2 1 0 4 3\n"
 
-# Codes as tables print them: of the trefoil, the figure eight and 5_2, and of the Hopf link.
-GAUSS = ("{-1,2,-3,1,-2,3}", "[-1, 2, -3, 1, -4, 3, -2, 4]", "{{1,-2},{2,-1}}", "[[[-1, 2], [-2, 1]], [-1, -1]]")
+# Codes as tables print them: of the trefoil, the figure eight and 5_2.
+GAUSS_LISTS = ("{-1,2,-3,1,-2,3}", "[-1, 2, -3, 1, -4, 3, -2, 4]")
 DT_LISTS = ("{4,6,2}", "[4, 6, 8, 2]", "{4,8,10,2,6}", "[4, 8, -12, 2, -14, -6, -10]")
 PD = ("[[1,5,2,4],[3,1,4,6],[5,3,6,2]]", "{{1,5,2,4};{3,1,4,6};{5,3,6,2}}", "PD[X[1,5,2,4],X[3,1,4,6],X[5,3,6,2]]", "X[1,5,2,4], X[3,1,4,6], X[5,3,6,2]",
       "PD[Xp[1,5,2,4], Xp[3,1,4,6], Xp[5,3,6,2]]", "[(1, 5, 2, 4), (3, 1, 4, 6), (5, 3, 6, 2)]", "X[1,5,2,4] X[3,1,4,6] X[5,3,6,2]",
@@ -82,13 +88,34 @@ class DrawnTest(TableTest):
 
     def test_dt_codes_are_drawn_by_way_of_a_pd_code(self):
         for title, entry, *words in (("dt_notation", "{4,6,2}"), ("entry", "DT: [(4,6,2)]"), ("entry", "DTCode[4,6,2]"), ("entry", "{{4,6,2}}"),
-                                     ("entry", "{4,6,2}", "--as", "dt")):
+                                     ("entry", "{4,6,2}", "--as", "dt"), ("entry", "DT[cacbca]"), ("dt", "4 6 2")):
             with self.subTest(title=title, entry=entry):
                 self.assertEqual(self.of(title, entry, *words), "# name: k\n# by `knot grid`, of a PD code made of a DT code, which the mirror image has too\n"
                                                                 + TREFOIL)
-        self.assertEqual(self.noted().count("crossings 3\nX[4,1,5,2]\nX[6,3,1,4]\nX[2,5,3,6]\nloops 0\n"), 5)
+        self.assertEqual(self.noted().count("crossings 3\nX[4,1,5,2]\nX[6,3,1,4]\nX[2,5,3,6]\nloops 0\n"), 7)
         self.assertIn("x 0 1 2 3\n", self.of("dt_notation", "{{4},{2}}"))
         self.assertIn("in which each of 2 parts may be mirrored", self.of("dt_notation", "{4,6,2,10,12,14,8}"))
+
+    def test_gauss_codes_are_drawn_by_way_of_a_pd_code(self):
+        of_both = "a Gauss code, which the mirror image has too"
+        for title, entry, made, *words in (("gauss_notation", "{1,-2,3,-1,2,-3}", of_both), ("Gauss Code", "1 -2 3 -1 2 -3", of_both),
+                                           ("entry", "GaussCode[1,-2,3,-1,2,-3]", of_both), ("entry", "{{1,-2,3,-1,2,-3}}", of_both),
+                                           ("entry", "{1,-2,3,-1,2,-3}", of_both, "--as", "gauss"), ("PD", "GaussCode[1,-2,3,-1,2,-3]", of_both),
+                                           ("entry", "O1-U2-O3-U1-O2-U3-", "a Gauss code"), ("gauss", "[[[1,-2,3,-1,2,-3]],[-1,-1,-1]]", "a Gauss code")):
+            with self.subTest(title=title, entry=entry):
+                self.assertEqual(self.of(title, entry, *words), f"# name: k\n# by `knot grid`, of a PD code made of {made}\n{TREFOIL}")
+        self.assertEqual(self.noted(), "crossings 3\nX[4,1,5,2]\nX[2,5,3,6]\nX[6,3,1,4]\nloops 0\n" * 8)
+        self.assertIn("in which each of 2 parts may be mirrored", self.of("gauss", "{1,-2,3,-1,2,-3,-4,5,-6,4,-7,6,-5,7}"))
+
+    def test_a_column_of_codes_of_several_kinds(self):
+        path = self.table("name|codes\na|DT: [(4,6,2)]\nb|GaussCode[1,-2,3,-1,2,-3]\nc|X1524 X3146 X5362\nd|{{1,-2,3,-1,2,-3}}\n")
+        self.assertEqual(self.call(path, self.out, "--diagram", "codes"),
+                         (0, f"4 rows: 4 diagrams in {self.out}, 0 couldn't be made\n",
+                          f"{path}: the column 'codes' has 2 Gauss codes and 1 DT code and 1 PD code, as c\n"))
+
+    def test_a_column_of_gauss_codes_counts_where_there_is_no_other(self):
+        for header, found in ((["name", "gauss_notation"], "gauss_notation"), (["name", "pd_notation", "gauss_notation"], "pd_notation")):
+            self.assertEqual(column_of_diagrams("knots.csv", header), found)
 
     def test_mirror_images_and_reverses_of_codes(self):
         grids = {words: self.of("pd", PD[0], *words).split("PD code\n")[1] for words in ((), ("--mirror",), ("--reverse",), ("--mirror", "--reverse"))}
@@ -111,12 +138,15 @@ class DrawnTest(TableTest):
                               ("PD[X[1,2,3]]", "row 1 of a PD code has four numbers, and not [1, 2, 3]"), ("X[-1,5,2,4]", "row 1 has the edge -1"),
                               ("(1,5,2,4),(3,1,4)", "row 2 of a PD code has four numbers, and not [3, 1, 4]"),
                               ("(1,5,2),(3,1,4,6)", "',' comes after the last bracket; only the crossings of a PD code need no brackets around them"),
-                              ("X1524 3146", "a comma is due, and not '3146'"), ("X[1,5,2,4] 3", "a comma is due, and not '3'"),
+                              ("X1524 3146", "row 2 of a PD code has four numbers, and not 3146"),
+                              ("X[1,5,2,4] 3", "row 2 of a PD code has four numbers, and not 3"),
                               *((f"{entry} X3146", f"'{entry}' is no crossing: after X come four edges, as X[4,2,5,1], X4251 or X3,10,4,11")
                                 for entry in ("X152", "X15246", "X1,5,2", "X1,5,2,4,6", "X1524,6", "X_{1,5,2}", "X_1,5,2,4")),
-                              ("PD[]", "row 1 of a PD code has four numbers"), ("DT[cacbca]", "'cacbca]]' is neither a number"),
+                              ("PD[]", "a PD code without rows doesn't say how many unknots it has"), ("DT[cacbc]", "the letters 'cacbc' are no DT code"),
                               ("DT[4,6]", "has each even number from 2 to 4 once"), ("DT[4,6,8,10,2]", "no diagram in the plane has this code"),
-                              ("DT: [(4,6,2),()]", "a DT code has a list of even numbers for each component")):
+                              ("DT: [(4,6,2),()]", "component 2 of a DT code has no crossing"),
+                              ("GaussCode[1,-2,3,-1,2]", "the crossing 3 is passed once, and not twice"),
+                              ("[[[1,-2,3,-1,2,-3]],[1,1]]", "nor a PD, DT or Gauss code")):
             with self.subTest(entry):
                 self.assertIn(reason, self.reason(entry))
 
@@ -124,7 +154,8 @@ class DrawnTest(TableTest):
         path = self.table("name|pd_notation\na|{{1,5,2,4},{3,1,4,6},{5,3,6,2}}\nb|{{1,2,3,4}}\nc|{1,1,1}\n")
         status, out, errors = self.call(path, self.out, "--diagram", "pd_notation")
         self.assertEqual((status, out, self.files()), (1, f"3 rows: 1 diagrams in {self.out}, 2 couldn't be made\n", ["a.txt"]))
-        self.assertEqual(errors.splitlines(), [f"{path}:3: b: the edge 1 doesn't occur exactly twice", f"{path}:4: c: row 1 of a PD code has four numbers, and not 1"])
+        self.assertEqual(errors.splitlines(), [f"{path}:3: b: the edge 1 doesn't occur exactly twice",
+                                               f"{path}:4: c: row 1 of a PD code has four numbers, and not [1, 1, 1]"])
 
     def test_a_program_that_cannot_be_run_ends_it(self):
         path = self.table(f'name,pd\nk,"{PD[0]}"\n')
@@ -159,35 +190,22 @@ def has_grid(program):
 class ProgramTest(TableTest):
     def test_codes_come_back_as_the_knots_that_they_are_of(self):
         for entry, words, braid in (("[[1,5,2,4],[3,1,4,6],[5,3,6,2]]", (), (2, (1, 1, 1))), ("DT[4,6,8,2]", (), (3, (1, -2, 1, -2))),
+                                    ("GaussCode[-1,2,-3,1,-4,3,-2,4]", (), (3, (1, -2, 1, -2))), ("O1-U2-O3-U1-O2-U3-", (), (2, (-1, -1, -1))),
+                                    ("[[[1,-2,3,-1,2,-3]],[1,1,1]]", (), (2, (1, 1, 1))), ("[[[1,-2],[-1,2]],[-1,-1]]", (), (2, (-1, -1))),
                                     ("[[1,5,2,4],[3,1,4,6],[5,3,6,2]]", ("--mirror",), (2, (-1, -1, -1)))):
             with self.subTest(entry):
-                grid = diagrams.grid_of(diagrams.read_diagram(diagrams.Lines(self.one(entry, "--knot", common.built_program(), *words))))
+                grid = diagrams.grid_of(texts.read_diagram(texts.Lines(self.one(entry, "--knot", common.built_program(), *words))))
                 code = crossing_codes.read_code(knot_invariants.code_of_grid(*map(list, grid)))
                 self.assertEqual(knot_invariants.jones_of_rows(code.rows, crossing_codes.signs(code)), knot_invariants.jones_polynomial(*braid))
 
 
 class RefusedTest(TableTest):
-    def test_gauss_codes_are_refused(self):
-        for entry in GAUSS:
-            with self.subTest(entry):
-                reason = self.reason(entry)
-                self.assertIn("a Gauss code, which is not read; give braid words, arc presentations, PD or DT codes", reason)
-                self.assertIn("`braid_word()`", reason)
-        self.assertIn("the entry begins as a Gauss code, which is not read", self.reason("GaussCode[-1,2,-3,1,-2,3]"))
-
-    def test_lists_of_a_dt_code_are_refused_where_nothing_says_what_they_are(self):
-        for entry in DT_LISTS:
-            with self.subTest(entry):
-                self.assertIn("a DT code, and not a braid word; --as dt takes it for one; --as braid takes it for a word", self.reason(entry))
-
-    def test_gauss_codes_by_the_title_of_their_column(self):
-        for title in ("gauss_notation", "Gauss Code", "GaussCode"):
-            with self.subTest(title):
-                path = self.table(f"name|{title}|word\na|{{1,1,1}}|{{1}}\n")
-                for words in (("--diagram", title), ("--diagram", "2"), ("--diagram", "word", "--second", title)):
-                    status, out, errors = self.call(path, self.out, *words)
-                    self.assertEqual((status, out, self.files()), (2, "", []))
-                    self.assertIn(f"the column '{title}' has Gauss codes by its title, which are not read; give braid words", errors)
+    def test_lists_of_a_code_are_refused_where_nothing_says_what_they_are(self):
+        for entries, reason in ((DT_LISTS, "a DT code, and not a braid word; --as dt takes it for one; --as braid takes it for a word"),
+                                (GAUSS_LISTS, "a Gauss code, and not a braid word; --as gauss takes it for one; --as braid takes it for a word")):
+            for entry in entries:
+                with self.subTest(entry):
+                    self.assertIn(reason, self.reason(entry))
 
     def test_titles_that_tell_of_no_code(self):
         for title in ("word", "braid_notation", "Arc Notation", "Braid (from the PD code)", "updated", "width", "padded", "dtx"):
@@ -226,7 +244,7 @@ class NoFalseAlarmTest(TableTest):
             for column in columns:
                 with self.subTest(table=table, column=column):
                     _, out, errors = self.call(path, os.path.join(self.folder, column), "--diagram", column)
-                    self.assertNotIn("code", errors)
+                    self.assertNotIn(" code", errors)
                     self.assertNotIn("warning", errors)
                     can_not = 1 if len(rows) == 9 else 0
                     self.assertTrue(out.startswith(f"{len(rows)} rows: {len(rows) - can_not} diagrams"), out)
@@ -239,13 +257,12 @@ class ExampleTest(unittest.TestCase):
         self.assertEqual(len(rows), 3)
         for row in rows:
             with self.subTest(row["name"]):
-                letters = table_entries.nested(row["braid_notation"])
+                letters = nested(row["braid_notation"])
                 wanted = knot_invariants.jones_polynomial(max(map(abs, letters)) + 1, letters)
-                pd = table_entries.nested(row["pd_notation"])
+                pd = nested(row["pd_notation"])
                 self.assertEqual(knot_invariants.jones_of_rows(pd, signs_of(pd)), wanted)
-                dt = table_entries.nested(row["dt_notation"])
-                made = pd_codes.rows_of_dt(dt if isinstance(dt[0], list) else [dt]).rows
-                self.assertIn(knot_invariants.jones_of_rows(made, signs_of(made)), (wanted, {-power: count for power, count in wanted.items()}))
+                for made in (read_text(row["dt_notation"], "DT").rows, read_text(row["gauss_notation"], "Gauss").rows):
+                    self.assertIn(knot_invariants.jones_of_rows(made, signs_of(made)), (wanted, {-power: count for power, count in wanted.items()}))
 
 
 class MissingLettersTest(TableTest):

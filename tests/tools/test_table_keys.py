@@ -8,22 +8,25 @@ from unittest import mock
 import common
 import plain_orbits
 import reader
-from lib.table_apart import blocks_in, seeds_of
-from lib.table_book import Book, BookError, in_lines, in_one_line, require_job
-from lib.table_choices import choices, diagrams_to, rows_of
-from lib.table_joins import Joins, Numbers, Pair, found_in, said_of
-from lib.table_keys import after, form_of, grid_of_form, shifts_between
-from lib.table_linear import block_between, block_text
-from lib.table_reduced import Reducer, short_place
-from lib.table_shadows import KNOWN, faces, is_one_curve, least, maps_to, shadows_to
-from lib.table_worker import SHORTEST, Worker
+from lib.calls.store import LineForm, Store
+from lib.sorting.apart import blocks_in, seeds_of
+from lib.sorting.joins import Joins, KeyNumbers, Pair, found_in, found_in_words
+from lib.sorting.keys import after, form_of, grid_of_form, shifts_between
+from lib.sorting.linear import block_between, block_text
+from lib.sorting.lines import in_lines, in_one_line
+from lib.sorting.reduced import Reducer, short_place
+from lib.sorting.searches import SHORTEST, Seek
+from lib.sorting.worker import Worker
+from lib.sorting.worker_classes import Named, find_name
+from lib.tabulate.choices import choices, diagrams_to, rows_of_choice
+from lib.tabulate.shadows import SHADOW_COUNTS, faces, is_one_curve, least_numbering, maps_to, shadows_to
+from knot_workbench.codes.planar import components_of_code
 from knot_workbench.diagrams import Braid, Grid, closure
 from knot_workbench.faults import Fault
-from knot_workbench.identifying import components_of
-from knot_workbench.knot_rows import Block
-from knot_workbench.knot_tables import SAME, TURNS
+from knot_workbench.identifying import components_of_grid
 from knot_workbench.moves import made
-from knot_workbench.pd_codes import components_of as components_of_code
+from knot_workbench.tables.knots import SAME, TURNS
+from knot_workbench.tables.numbers import Block
 from reader.items import read_table
 from reader.numbers import numbers_of
 
@@ -52,7 +55,7 @@ def faces_of_code(rows):
 class ShadowsTest(unittest.TestCase):
     def test_maps_and_shadows_are_as_many_as_is_known(self):
         self.assertEqual({count: len(found) for count, found in maps_to(7)}, MAPS)
-        self.assertEqual({count: len(found) for count, found in shadows_to(7)}, {count: KNOWN[count] for count in range(3, 8)})
+        self.assertEqual({count: len(found) for count, found in shadows_to(7)}, {count: SHADOW_COUNTS[count] for count in range(3, 8)})
 
     def test_a_shadow_is_one_curve_in_the_plane(self):
         for count, found in shadows_to(6):
@@ -75,7 +78,7 @@ class ShadowsTest(unittest.TestCase):
                 renamed = [0] * len(ends)
                 for dart, end in enumerate(ends):
                     renamed[other(dart)] = other(end)
-                self.assertEqual(least(tuple(renamed)), ends)
+                self.assertEqual(least_numbering(tuple(renamed)), ends)
 
 
 class DiagramsTest(unittest.TestCase):
@@ -94,7 +97,7 @@ class DiagramsTest(unittest.TestCase):
     def test_the_alternating_choice_is_made_once(self):
         for _, found in shadows_to(6):
             for ends in found:
-                alternating = [choice for choice in choices(ends) if is_alternating(rows_of(ends, choice))]
+                alternating = [choice for choice in choices(ends) if is_alternating(rows_of_choice(ends, choice))]
                 self.assertEqual(len(alternating), 1)
 
 
@@ -108,7 +111,7 @@ class KeysTest(unittest.TestCase):
     def grids(self):
         for strands, letters in ((2, [1, 1, 1]), (3, [1, -2, 1, -2]), (2, [1] * 5), (3, [1, 1, 1, -2, 1, -2]), (3, [1, 2]), (4, [1, -2, 3, 2, 2])):
             grid = closure(Braid(strands, letters))[0]
-            self.assertEqual(components_of(grid), 1)
+            self.assertEqual(components_of_grid(grid), 1)
             yield grid
 
     def test_moves_lead_to_the_key(self):
@@ -160,7 +163,7 @@ class KeysTest(unittest.TestCase):
             grid = closure(braid)[0]
             form, moves = reducer.short(grid)
             self.assertEqual(after(grid, moves), grid_of_form(form))
-            self.assertEqual(components_of(grid_of_form(form)), components_of(grid))
+            self.assertEqual(components_of_grid(grid_of_form(form)), components_of_grid(grid))
             self.assertIsNone(short_place(form))
         self.assertEqual(len(reducer.short(closure(Braid(2, []))[0])[0]), 8)
 
@@ -207,7 +210,7 @@ class LinearTest(unittest.TestCase):
 
 def by_rounds(joins, answer, efforts):
     """Tries all pairs by rounds, in each of which every first key has one pair; where none has one, one symmetry."""
-    for words in efforts:
+    for search in efforts:
         tried = set()
         while True:
             pairs = []
@@ -222,10 +225,10 @@ def by_rounds(joins, answer, efforts):
                 break
             tried.update(pairs)
             for pair in pairs:
-                found = answer(pair, words)
+                found = answer(pair, search)
                 if not isinstance(found, Fault):
-                    joins.book.add(f"{pair.key.hex()}.{pair.aim.hex()}.{TURNS.index(pair.turn)}.{words}", said_of(found))
-                    joins.take(pair, found, words)
+                    joins.store.put(f"{pair.key.hex()}.{pair.aim.hex()}.{TURNS.index(pair.turn)}.{search.words}", found_in_words(found))
+                    joins.take(pair, found, search)
 
 
 def in_any_order(answer, dice):
@@ -235,8 +238,8 @@ def in_any_order(answer, dice):
         while waiting or under_way:
             while waiting and len(under_way) < 5:
                 under_way.append(waiting.popleft())
-            pair, _, _, words = under_way.pop(dice.randrange(len(under_way)))
-            yield pair, answer(pair, words)
+            pair, _, _, search = under_way.pop(dice.randrange(len(under_way)))
+            yield pair, answer(pair, search)
     return ask
 
 
@@ -244,9 +247,9 @@ class JoinsTest(unittest.TestCase):
     """Keys of one bucket, joined by answers that the test gives."""
 
     def joins(self, rows):
-        book = Book(os.path.join(common.scratch(self), "tries"))
-        self.addCleanup(book.close)
-        return Joins(Numbers(rows, [Block(3, 0, False)]), book)
+        store = Store(os.path.join(common.scratch(self), "tries"), LineForm("tries", "others"))
+        self.addCleanup(store.close)
+        return Joins(KeyNumbers(rows, [Block(3, 0, False)]), store)
 
     def test_keys_are_tried_within_their_bucket_alone_and_joined(self):
         small, large, other = bytes((0, 1, 1, 0)), form_of(TREFOIL), form_of(TREFOIL.mirror().reverse())
@@ -257,13 +260,13 @@ class JoinsTest(unittest.TestCase):
             asked.append(pair)
             return (("shift", "rows", 1),) if pair.key != pair.aim and pair.turn == TURNS[1] else None
 
-        joins.try_all(in_any_order(answer, random.Random(1)), ["words"], with_symmetries=False)
+        joins.try_all(in_any_order(answer, random.Random(1)), [Seek(("words",))], with_symmetries=False)
         self.assertEqual(asked, [Pair(large, small, SAME), Pair(large, small, TURNS[1])])
         self.assertEqual(sorted(joins.roots()), sorted([small, other]))
         self.assertEqual(joins.way(large), (small, TURNS[1], [("shift", "rows", 1)]))
-        # All is in the book: a second call asks nothing.
-        again = Joins(joins.numbers, joins.book)
-        again.try_all(in_any_order(lambda pair, _: self.fail(pair), random.Random(1)), ["words"], with_symmetries=False)
+        # All is in the store: a second call asks nothing.
+        again = Joins(joins.numbers, joins.store)
+        again.try_all(in_any_order(lambda pair, _: self.fail(pair), random.Random(1)), [Seek(("words",))], with_symmetries=False)
         self.assertEqual(again.above, joins.above)
 
     def test_what_comes_of_tries_is_what_comes_of_rounds_whichever_ends_first(self):
@@ -272,31 +275,31 @@ class JoinsTest(unittest.TestCase):
         rows = {key: ((((9, 3)[place % 3 == 0],),) * 2) for place, key in enumerate(keys)}
         for seed in range(20):
 
-            def answer(pair, words):
-                dice = random.Random(repr((seed, pair, words)))
+            def answer(pair, search):
+                dice = random.Random(repr((seed, pair, search)))
                 return dice.choice([None] * 12 + [(), "told\n", Fault("none")])
 
             plain, joins = self.joins(rows), self.joins(rows)
-            by_rounds(plain, answer, ["one", "other"])
-            joins.try_all(in_any_order(answer, random.Random(seed)), ["one", "other"])
+            by_rounds(plain, answer, [Seek(("one",)), Seek(("other",))])
+            joins.try_all(in_any_order(answer, random.Random(seed)), [Seek(("one",)), Seek(("other",))])
             same = [{key: turns for key, turns in one.same.items() if len(turns) > 1} for one in (joins, plain)]
             self.assertEqual(*same)
-            self.assertEqual((joins.above, joins.told, joins.by, joins.loops, joins.vain, joins.left),
-                             (plain.above, plain.told, plain.by, plain.loops, plain.vain, set()))
+            self.assertEqual((joins.above, joins.verdicts, joins.by, joins.loops, joins.vain, joins.left),
+                             (plain.above, plain.verdicts, plain.by, plain.loops, plain.vain, set()))
 
     def test_what_a_try_found_is_read_as_it_was_written(self):
         for found in (None, (), (("shift", "rows", 1), ("stabilise", 0, "x", "lowleft")), "certificate 3\ndifferent linking\n"):
-            self.assertEqual(found_in(said_of(found)), found)
+            self.assertEqual(found_in(found_in_words(found)), found)
 
 
 class NoSearch(Worker):
     """A worker without programs, whose searches find nothing."""
 
     def __init__(self, aims):
-        self.reducer, self.table, self.aims = plain_reducer(), self, aims
+        self.knot, self.seek, self.reducer, self.table, self.aims = "knot", "seek", plain_reducer(), self, aims
 
-    def join(self, asked):
-        return asked[0], None
+    def answered(self, path, words, text, also=()):
+        return 1, ""
 
     def candidates(self, row):
         return row
@@ -319,12 +322,12 @@ class Answering(Worker):
 
 class WorkerTest(unittest.TestCase):
     def test_the_shortest_list_is_taken_of_searches_behind_one_that_joined_a_pair(self):
-        pair, aim = Pair(b"key", b"aim", SAME), made(TREFOIL, ("shift", "rows", 1))
+        aim = made(TREFOIL, ("shift", "rows", 1))
         three, one = ["shift rows 3", "shift rows 2", "shift rows 1"], ["shift rows 1"]
         for answers, found, count in (({"--seed=1": three, "--seed=3": one, "decide": three}, (("shift", "rows", 1),), 4),
                                       ({"--seed=1": one, "decide": three}, (("shift", "rows", 1),), 4), ({"--seed=2": one}, None, 1)):
             worker = Answering(answers)
-            self.assertEqual(worker.join((pair, TREFOIL, aim, SHORTEST[0])), (pair, found))
+            self.assertEqual(SHORTEST[0].find(worker, TREFOIL, aim), found)
             self.assertEqual(len(worker.asked), count)
 
     def test_a_class_has_the_name_of_a_diagram_that_leads_to_one_of_its_keys(self):
@@ -335,44 +338,25 @@ class WorkerTest(unittest.TestCase):
         first = after(TURNS[1].of(grid_of_form(there.key)), [("stabilise", 2, "x", "lowleft")])
         ways = {there.key: (TURNS[1], [("stabilise", 2, "x", "lowleft")])}
         key = bytes(first.xs + first.os)
-        with mock.patch("lib.table_worker.table_at", lambda worker: worker):
+        with mock.patch("lib.sorting.worker_classes.table_at", lambda worker: worker):
             for known in (ways, {}):
-                found = NoSearch({eight: aim, (("3_1", SAME),): other}).name((key, [(("3_1", SAME),), eight], known))
+                found = find_name(NoSearch({eight: aim, (("3_1", SAME),): other}), (key, [(("3_1", SAME),), eight], known))
                 if not known:
-                    self.assertEqual(found, (key, None, None, None))
+                    self.assertEqual(found, (key, None))
                     continue
                 turn = there.turn.then(TURNS[1])
-                self.assertEqual(found[:3], (key, (("8_20", TURNS[1].then(turn)),), turn.of(aim)))
-                self.assertEqual(after(first, found[3]), turn.of(aim))
+                self.assertEqual(found, (key, Named((("8_20", TURNS[1].then(turn)),), turn.of(aim), found[1].moves)))
+                self.assertEqual(after(first, found[1].moves), turn.of(aim))
 
     def test_a_signal_behind_the_end_of_a_program_leaves_no_traceback(self):
-        script = ("import subprocess, sys; sys.path.insert(0, sys.argv[1]); from lib.table_worker import Caller\n"
-                  "caller = Caller(); gone = subprocess.Popen([sys.executable, '-c', '']); gone.wait(); caller.child = gone.pid; caller.stop()")
+        script = ("import os, subprocess, sys; sys.path.insert(0, sys.argv[1]); from lib.calls.pools import end_worker\n"
+                  "from knot_workbench.programs import CALLER\n"
+                  "gone = subprocess.Popen([sys.executable, '-c', '']); os.waitpid(gone.pid, 0); CALLER._running.add(gone); end_worker()")
         done = common.call([sys.executable, "-B", "-c", script, common.TOOLS])
         self.assertEqual((done.returncode, done.stdout, done.stderr), (1, "", ""))
 
 
-class BooksTest(unittest.TestCase):
-    def test_a_cut_line_is_left_out(self):
-        path = os.path.join(common.scratch(self), "book")
-        book = Book(path)
-        book.add("one", 1, "a b")
-        book.add("two", 2)
-        book.close()
-        with open(path, "a", encoding="utf-8") as out:
-            out.write("three\t")
-        again = Book(path)
-        again.add("four")
-        again.close()
-        with open(path, encoding="utf-8") as source:
-            self.assertEqual(source.read(), "one\t1\ta b\ntwo\t2\nfour\n")
-
-    def test_a_folder_of_another_call_is_refused(self):
-        folder = common.scratch(self)
-        require_job(folder, "one")
-        require_job(folder, "one")
-        self.assertRaises(BookError, require_job, folder, "two")
-
+class LinesTest(unittest.TestCase):
     def test_lines_in_one(self):
         self.assertEqual(in_lines(in_one_line("x 0 1\no 1 0\n")), "x 0 1\no 1 0\n")
 

@@ -130,6 +130,13 @@ class InputsTest(unittest.TestCase):
         self.assertEqual([one["name"] for one in rows(self.out, "rows.csv")], ["good", "mirrored"])
         self.assertEqual([one["name"] for one in rows(self.out, "table.csv")], ["3_1"])
 
+    def test_a_table_of_gauss_codes(self):
+        table = self.put("codes.csv", 'name,gauss_notation\nplain,"{1,-2,3,-1,2,-3}"\nsigned,O1+U2+O3+U1+O2+U3+\nonce,"{1,-2,3,-1,2}"\n')
+        done = call(table, self.out, "--table", TO_10, timeout=common.LONG)
+        self.assertEqual((done.returncode, [one["name"] for one in rows(self.out, "table.csv")]), (3, ["3_1"]), done.stderr)
+        self.assertIn("codes.csv:4: the crossing 3 is passed once, and not twice", done.stderr)
+        self.assertEqual([one["name"] for one in rows(self.out, "rows.csv")], ["plain", "signed"])
+
     def test_a_folder_of_diagrams(self):
         self.put("in/one.txt", "braid 2 1 1 1\n")
         self.put("in/two.txt", "x 4 3 2 1 0\no 2 1 0 4 3\n")
@@ -163,10 +170,13 @@ class InputsTest(unittest.TestCase):
             self.assertEqual(call(*words).returncode, 2)
 
     def test_a_folder_of_another_table_is_refused(self):
-        self.put("out/work/job", "tabulate 2 another\n")
-        done = call("4", self.out, "--table", TO_10)
-        self.assertEqual(done.returncode, 2)
-        self.assertIn("another", done.stderr)
+        # The heads are of another table, of the form before this one, and of none.
+        for head in ("tabulate 4 another\n", "tabulate 3 another\n", "3.1.1\t3\tPD[]\tx 1 0 / o 0 1\t01000001\t\n"):
+            path = self.put("out/work/rows.tsv", head)
+            done = call("4", self.out, "--table", TO_10)
+            self.assertEqual((done.returncode, done.stdout), (2, ""))
+            self.assertEqual(done.stderr, f"tabulate.py: {path}: the folder is of another table or list, or of another version: name another one\n")
+            self.assertEqual(read(self.out, "work/rows.tsv"), head)
 
 
 @unittest.skipUnless(HAS_PROGRAMS, "knot and seek are not built, or older than certificates of tables")

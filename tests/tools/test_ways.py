@@ -1,11 +1,10 @@
-"""Tests that no way of running tools/batch.py changes an answer, nor what the programs are asked: by the script alone, by GNU parallel, over
-ssh, in parts and as an array job. ssh and the queue are stand-ins. With stand-ins for knot and seek, and with the programs where they are
-built."""
+"""Tests that no way of running tools/batch.py changes an answer, nor what the programs are asked: by one call, in parts, by the lines of
+docs/BATCH.md for GNU parallel and for ssh alone, and as an array job. ssh and the queue are stand-ins. With stand-ins for knot and seek, and with
+the programs where they are built."""
 import hashlib
 import json
 import os
 import re
-import shlex
 import shutil
 import subprocess
 import sys
@@ -20,8 +19,15 @@ STAND_IN = os.path.join(common.ROOT, "tests", "tools", "logged_program.py")
 HAS_PARALLEL = shutil.which("parallel") is not None
 BUILT = [os.environ.get(name.upper()) or os.path.join(common.ROOT, "crates", name, "out", name) for name in ("knot", "seek")]
 
-# Like ssh it takes the host and puts the other words together. It runs them in another folder and without most of the environment.
-SSH = '#!/bin/sh\nshift\n[ "$1" = -- ] && shift\ncd / && exec env -i PATH="$PATH" HOME="$HOME" SHELL=/bin/sh sh -c "$*"\n'
+# Like ssh it takes the host and puts the other words together. It runs them in another folder and without most of the environment, where the
+# host isn't dead.
+SSH = """#!/bin/sh
+host=$1; shift
+[ "$1" = -- ] && shift
+[ "$host" = dead ] && exit 255
+echo "$host" >>'{folder}/logins'
+cd / && exec env -i PATH="$PATH" HOME="$HOME" SHELL=/bin/sh KNOT='{tree}/knot' SEEK='{tree}/seek' sh -c "$*"
+"""
 
 LAUNCHER = '#!/bin/sh\nhere=$(dirname -- "$(readlink -f -- "$0")")\nfor word; do case $word in --weights*) named=1 ;; esac; done\n' \
     '[ -n "${named-}" ] || [ "${0##*/}" = knot ] || set -- --weights "$here/quandles/weights/list.txt" "$@"\n' \
@@ -32,28 +38,8 @@ UNKNOTS = "x 0 1\no 1 0\nx 0 1\no 1 0\n"
 TRIALS = {EMPTY, *(hashlib.sha256(text.encode()).hexdigest() for text in (UNKNOTS, UNKNOTS + "equal 0\n"))}
 
 
-def run_python(words, _):
-    return [[*words]]
-
-
-def run_parallel(words, _):
-    return [["--with", "parallel", *words]]
-
-
-def run_hosts(words, folder):
-    ssh, hosts = os.path.join(folder, "ssh"), os.path.join(folder, "hosts")
-    for path, text in ((ssh, SSH), (hosts, f"2/{ssh} one\n2/{ssh} two\n")):
-        with open(path, "w", encoding="utf-8") as out:
-            out.write(text)
-    os.chmod(ssh, 0o755)
-    return [["--hosts", hosts, *words]]
-
-
-def run_parts(words, _):
-    return [["--part", "1/2", *words], ["--part", "2/2", *words], words]
-
-
-WAYS = {"python": run_python, "parallel": run_parallel, "hosts": run_hosts, "parts": run_parts}
+# The calls of each way, each with the words before those of the folders.
+WAYS = {"alone": [[]], "parts": [["--part", "1/2"], ["--part", "2/2"], []]}
 
 
 class WaysTest(unittest.TestCase):
@@ -85,23 +71,20 @@ class WaysTest(unittest.TestCase):
         """Runs a folder in a way: the statuses of all calls, and the folder of answers."""
         answers = os.path.join(self.folder, f"answers-{way}-{len(os.listdir(self.folder))}")
         statuses = []
-        for call in WAYS[way](["--processes", "2", *words, problems, answers], self.folder):
-            more = ["--with", "python"] if way in ("python", "parts") else []
-            done = subprocess.run([sys.executable, "-B", SCRIPT, *more, *call], env=self.environment(), capture_output=True, text=True, check=False, timeout=common.LONG)
+        for more in WAYS[way]:
+            call = [sys.executable, "-B", SCRIPT, *more, "--processes", "2", *words, problems, answers]
+            done = subprocess.run(call, env=self.environment(), capture_output=True, text=True, check=False, timeout=common.LONG)
             self.assertNotIn("Traceback", done.stderr)
             statuses.append((done.returncode, done.stdout))
         return statuses, answers
 
     def kept(self, answers):
-        """All that is kept, but for seconds and the log of GNU parallel."""
+        """All that is kept, but for seconds."""
         found = {}
-        for folder, _, names in os.walk(answers):
-            for name in names:
-                if name != "jobs.log":
-                    path = os.path.join(folder, name)
-                    with open(path, encoding="utf-8") as file:
-                        text = re.sub(r'"seconds": [0-9.e-]+', '"seconds": 0', file.read())
-                    found[os.path.relpath(path, answers)] = re.sub(r",[0-9]+\.[0-9]{3},(accepted|)$", r",0,\1", text, flags=re.M)
+        for path in (os.path.join(folder, name) for folder, _, names in os.walk(answers) for name in names):
+            with open(path, encoding="utf-8") as file:
+                text = re.sub(r'"seconds": [0-9.e-]+', '"seconds": 0', file.read())
+            found[os.path.relpath(path, answers)] = re.sub(r",[0-9]+\.[0-9]{3},(accepted|)$", r",0,\1", text, flags=re.M)
         return found
 
     def calls(self):
@@ -114,22 +97,19 @@ class WaysTest(unittest.TestCase):
 
     def ways_alike(self, words, problems):
         """Runs a folder in all ways: what was kept by each, where all are alike."""
-        ways = [way for way in WAYS if HAS_PARALLEL or way in ("python", "parts")]
         found = {}
-        for way in ways:
+        for way in WAYS:
             with self.subTest(way=way, words=words):
                 statuses, answers = self.run_way(way, words, problems)
                 made = self.calls() if self.programs[0] == STAND_IN else None
                 found[way] = statuses[-1], self.kept(answers), made
-                self.assertEqual(found[way][0], found["python"][0])
-                self.assertEqual(found[way][1], found["python"][1])
-                self.assertEqual(found[way][2], found["python"][2])
-        if not HAS_PARALLEL:
-            self.skipTest("GNU parallel is not installed: only the ways without it were compared")
-        return found["python"]
+                self.assertEqual(found[way][0], found["alone"][0])
+                self.assertEqual(found[way][1], found["alone"][1])
+                self.assertEqual(found[way][2], found["alone"][2])
+        return found["alone"]
 
 
-class StandInTest(WaysTest):
+class StandIns(WaysTest):
     def problems(self, most=6):
         """Problems of all ends: one unknown, one settled late, one refused, and others; or so many of them."""
         os.mkdir(os.path.join(self.folder, "problems"))
@@ -140,6 +120,8 @@ class StandInTest(WaysTest):
             self.put(os.path.join("problems", name + ".txt"), text)
         return os.path.join(self.folder, "problems")
 
+
+class StandInTest(StandIns):
     def test_the_default_stages_are_the_same_in_all_ways(self):
         (status, out), kept, made = self.ways_alike([], self.problems())
         self.assertEqual((status, out), (3, "6 problems: 1 different, 2 equal, 1 refused, 2 unknown; 3 of 3 certificates accepted\n"))
@@ -176,8 +158,8 @@ class StandInTest(WaysTest):
 
     def test_an_array_job_answers_as_one_call_does(self):
         problems = self.problems()
-        (status, out), before, made = self.run_way("python", [], problems)[0][-1], None, self.calls()
-        alone = self.kept(self.run_way("python", [], problems)[1])
+        (status, out), before, made = self.run_way("alone", [], problems)[0][-1], None, self.calls()
+        alone = self.kept(self.run_way("alone", [], problems)[1])
         self.calls()
         answers = os.path.join(self.folder, "array")
         for task in range(1, 9):
@@ -185,7 +167,7 @@ class StandInTest(WaysTest):
             done = subprocess.run(["sh", JOB, problems, answers], env=self.environment(**slurm), capture_output=True, text=True, check=False, cwd=common.ROOT, timeout=common.LONG)
             # Two of eight parts are empty; what is refused makes its own task fail alone.
             self.assertEqual(done.returncode, 3 if task == 5 else 0, done.stderr)
-        done = subprocess.run([sys.executable, "-B", SCRIPT, "--with", "python", problems, answers], env=self.environment(), capture_output=True, text=True, check=False)
+        done = subprocess.run([sys.executable, "-B", SCRIPT, problems, answers], env=self.environment(), capture_output=True, text=True, check=False)
         self.assertEqual((done.returncode, done.stdout, before), (status, out, None))
         self.assertEqual(self.kept(answers), alone)
         self.assertEqual(self.calls(), made)
@@ -199,7 +181,7 @@ class StandInTest(WaysTest):
 
     def test_a_stage_by_its_name_is_tried_as_in_a_whole_call(self):
         problems = self.problems()
-        _, answers = self.run_way("python", ["--stages", self.put("stages.txt", "a seek --steps 5\n")], problems)
+        _, answers = self.run_way("alone", ["--stages", self.put("stages.txt", "a seek --steps 5\n")], problems)
         made = [call for call in self.calls() if json.loads(call)[0] == "seek"]
         alone = os.path.join(self.folder, "alone")
         for name in ("a", "b", "c d'e", "f", "g", "h"):
@@ -211,7 +193,7 @@ class StandInTest(WaysTest):
 
     def test_what_was_tried_without_a_list_is_tried_with_it(self):
         problems = self.problems()
-        _, answers = self.run_way("python", [], problems)
+        _, answers = self.run_way("alone", [], problems)
         path = os.path.join(answers, "answers", "f.txt")
         with open(path, encoding="utf-8") as file:
             text = file.read()
@@ -219,28 +201,47 @@ class StandInTest(WaysTest):
         with open(path, "w", encoding="utf-8") as out:
             out.write(re.sub(r'"--weights=[0-9a-f]{64}"', "", text).replace('["seek", ]', '["seek"]'))
         self.calls()
-        subprocess.run([sys.executable, "-B", SCRIPT, "--with", "python", problems, answers], env=self.environment(), capture_output=True, check=False, timeout=common.LONG)
+        subprocess.run([sys.executable, "-B", SCRIPT, problems, answers], env=self.environment(), capture_output=True, check=False, timeout=common.LONG)
         self.assertEqual([json.loads(line)[0] for line in self.calls()], ["seek"])
 
+
+class PageTest(StandIns):
+    """The lines of docs/BATCH.md for several machines, in a folder that has the tools, the problems and a file of logins."""
+
+    def setUp(self):
+        super().setUp()
+        self.problems()
+        os.symlink(common.TOOLS, os.path.join(self.folder, "tools"))
+        ssh = self.put("ssh", SSH.format(folder=self.folder, tree=self.tree))
+        os.chmod(ssh, 0o755)
+        self.put("hosts.txt", f"2/{ssh} one\n2/{ssh} two\n1/{ssh} dead\n")
+
+    def lines(self, word):
+        """The command of the page that has this word, with fewer parts, and the one after it."""
+        page = common.read("docs", "BATCH.md").splitlines()
+        place = next(place for place, line in enumerate(page) if line.startswith("    $ ") and word in line)
+        return [line[len("    $ "):].replace("64", "8") for line in page[place:place + 2]]
+
+    def alike(self, word):
+        """Runs these commands: they leave what one call leaves, and both hosts worked."""
+        alone, asked = self.run_way("alone", [], os.path.join(self.folder, "problems")), self.calls()
+        path = self.folder + os.pathsep + os.environ["PATH"]
+        environment = self.environment(PATH=path)
+        environment.pop("SHELL", None)
+        for line in self.lines(word):
+            done = subprocess.run(["sh", "-c", line], cwd=self.folder, env=environment, capture_output=True, text=True, check=False, timeout=common.LONG)
+        self.assertEqual((done.returncode, done.stdout), alone[0][0])
+        self.assertEqual(self.kept(os.path.join(self.folder, "answers")), self.kept(alone[1]))
+        self.assertEqual(self.calls(), asked)
+        with open(os.path.join(self.folder, "logins"), encoding="utf-8") as file:
+            return set(file.read().split())
+
     @unittest.skipUnless(HAS_PARALLEL, "GNU parallel is not installed")
-    def test_a_list_that_changes_while_the_call_runs_stops_its_stage(self):
-        os.unlink(os.path.join(self.tree, "quandles"))
-        os.makedirs(os.path.join(self.tree, "quandles", "weights"))
-        listed = self.put("tree/quandles/weights/list.txt", "quandle dihedral 3\n")
-        os.mkdir(os.path.join(self.folder, "problems"))
-        for name in "ab":
-            self.put(f"problems/{name}.txt", "# nothing\n")
-        # It changes when the stage's words are tried, after its digest was taken and before the first problem.
-        seek = os.path.join(self.tree, "crates", "seek", "out", "seek")
-        os.rename(seek, seek + "-itself")
-        self.put("tree/crates/seek/out/seek", f"#!/bin/sh\ncase $* in *--steps*) echo quandle dihedral 5 >{shlex.quote(listed)} ;; esac\n"
-                 f"exec {shlex.quote(seek)}-itself \"$@\"\n")
-        os.chmod(seek, 0o755)
-        stages = self.put("stages.txt", "a seek --steps 5\n")
-        done = subprocess.run([sys.executable, "-B", SCRIPT, "--with", "parallel", "--processes", "1", "--stages", stages, os.path.join(self.folder, "problems"),
-                               os.path.join(self.folder, "answers")], env=self.environment(), capture_output=True, text=True, check=False, timeout=common.LONG)
-        self.assertEqual(done.returncode, 3)
-        self.assertEqual(done.stderr.count(f"batch.py: {listed}: it is not what it was when the call began\n"), 1, done.stderr)
+    def test_the_line_of_gnu_parallel_answers_as_one_call_does_though_a_host_is_dead(self):
+        self.assertEqual(self.alike("| parallel "), {"one", "two"})
+
+    def test_the_line_of_ssh_alone_answers_as_one_call_does(self):
+        self.assertEqual(self.alike("do ssh "), {"host1", "host2"})
 
 
 @unittest.skipUnless(all(os.access(path, os.X_OK) for path in BUILT), "knot and seek are not built here; KNOT and SEEK may name built ones")
