@@ -3,9 +3,10 @@ import os
 import unittest
 
 from three_knots import BUILT, BUILT_SEEK, IdentifyTest, MADE, SYMMETRY, TABLE
-from knot_table import rounds_to
 from knot_workbench import Certificate, KnotTable, Turn
 from knot_workbench.identifying import ROUNDS
+from knot_workbench.tables.knots import read_knots
+from lib.knot_table.symmetries import rounds_to
 
 
 class KnotTableScript(IdentifyTest):
@@ -70,6 +71,37 @@ class KnotTableScript(IdentifyTest):
 
 @unittest.skipUnless(BUILT and os.access(BUILT_SEEK, os.X_OK), "the programs aren't built")
 class WithThePrograms(IdentifyTest):
+    def make(self, what, *words):
+        """Calls knot_table.py with the programs: its status, and what it says on standard error."""
+        status, _, said = self.call("knot_table.py", what, self.table, "--list", self.list, *words, KNOT=BUILT, SEEK=BUILT_SEEK)
+        return status, said
+
+    def put_column(self, title, entries):
+        """Adds a column to the table."""
+        lines = [f'{line},{entry}' for line, entry in zip(TABLE.splitlines(), [title, *(f'"{entry}"' for entry in entries)])]
+        self.put("knots.csv", "".join(f"{line}\n" for line in lines))
+
+    def test_a_word_is_joined_to_its_grid_and_another_word_is_told(self):
+        self.put_column("braid_notation", ("{2,{-1,-1,-1}}", "{3,{1,-2,1,-2}}", "{2,{-1,-1,-1,-1,-1}}"))
+        self.assertEqual(self.make("names"), (0, ""))
+        self.put_column("braid_notation", ("{2,{-1,-1,-1}}", "{3,{1,-2,1,-2}}", "{2,{-1,-1,-1}}"))
+        status, said = self.make("names")
+        self.assertEqual((status, said.count("the braid word is another knot")), (1, 1))
+        self.assertIn(f"{self.table}: 5_1: the braid word is another knot", said)
+
+    def test_the_grid_of_a_code_is_drawn_and_takes_the_place_of_a_larger_one(self):
+        codes = ("PD[X[1,5,2,4],X[3,1,4,6],X[5,3,6,2]]", "PD[X[4,2,5,1],X[8,6,1,5],X[6,3,7,4],X[2,7,3,8]]",
+                 "PD[X[1,7,2,6],X[3,9,4,8],X[5,1,6,10],X[7,3,8,2],X[9,5,10,4]]")
+        self.put_column("pd_notation", codes)
+        status, said = self.make("grids", "--write")
+        self.assertEqual(status, 0, said)
+        self.assertEqual(self.make("grids"), (0, ""))
+        self.assertEqual([knot.grid.size for knot in read_knots(self.table).values()], [5, 6, 7])
+        drawn = self.read("knots.csv")
+        self.put("knots.csv", drawn.replace(drawn.splitlines()[1].split('"')[1], "{{2,6},{3,1},{4,2},{5,3},{6,4},{1,5}}"))
+        status, said = self.make("grids")
+        self.assertEqual((status, said), (1, f"{self.table}: 3_1: the grid that is drawn has 5 columns, and that of the table 6\n"))
+
     def test_symmetries_that_walks_show(self):
         kept = os.path.join(self.folder, "kept")
         words = ("knot_table.py", "symmetry", self.table, "--list", self.list, "--rounds", "2", "--write", "--certificates", kept)

@@ -4,7 +4,8 @@ calls      how scripts are called: streams, files, signals, stores of answers, w
 codes      codes of other programs, and braid words
 batch      a folder of problems, stage by stage: batch.py
 pieces     a list of inputs in pieces, for many machines: pieces.py
-tables     tables of knots, and diagrams that are given: from_table.py, to_table.py, knot_table.py
+tables     tables of knots, and diagrams that are given: from_table.py, to_table.py
+knot_table what belongs to a table of knots, made anew: knot_table.py
 identify   which knot a diagram is: identify.py
 sorting    diagrams sorted into classes, for tabulate.py and census.py
 classes    what is said of the classes, with a certificate
