@@ -7,7 +7,7 @@ import tempfile
 import threading
 import time
 from contextlib import contextmanager, suppress
-from typing import IO, Dict, Iterator, List, NamedTuple, Optional, Sequence, Set, Tuple
+from typing import IO, Callable, Dict, Iterator, List, NamedTuple, Optional, Sequence, Set, Tuple
 
 from .faults import Failed, Fault, Malformed, NoJob, NoProgram, OverLimit, Rejected, TimedOut
 
@@ -52,6 +52,10 @@ class Ran(NamedTuple):
         return self.said.decode("utf-8", "replace")
 
 
+def do_nothing() -> None:
+    """What is done after an end where nothing else is due."""
+
+
 class Caller:
     """Calls programs. What runs is ended where an exception, as that of a signal, leaves its call, and where all is stopped."""
 
@@ -59,7 +63,8 @@ class Caller:
         # What handles a signal may stop a caller at which the same thread is at work.
         self._lock = threading.RLock()
         self._running: "Set[subprocess.Popen[bytes]]" = set()
-        self._is_stopped = False
+        self._is_stopped = self._is_beginning = False
+        self._then: Callable[[], None] = do_nothing
 
     def run(self, call: Sequence[str], given: bytes, *, seconds: Optional[float] = None, most: Optional[int] = None, is_shown: bool = False) -> Ran:
         """Runs a program, by its path and its words, with these bytes as its input: for so many seconds, and until it has written more than `most`
@@ -84,8 +89,7 @@ class Caller:
         with self._lock:
             if self._is_stopped:
                 return KILLED, STOPPED
-            process = subprocess.Popen(call, stdin=streams[0], stdout=streams[1], stderr=streams[2])
-            self._running.add(process)
+            process = self._begun(call, streams)
         try:
             with limited(process, streams[1:], seconds, most) as cut:
                 status = process.wait()
@@ -98,14 +102,29 @@ class Caller:
                 self._running.discard(process)
         return status, STOPPED if self._is_stopped else BYTES if is_over(streams[1:], most) else "".join(cut)
 
-    def stop(self) -> None:
-        """Ends what runs; later calls begin nothing."""
+    def _begun(self, call: Sequence[str], streams: "Tuple[Optional[IO[bytes]], ...]") -> "subprocess.Popen[bytes]":
+        """A process that is known from now on. If this thread handles a signal while it begins, `stop` is made up for."""
+        self._is_beginning = True
+        try:
+            process = subprocess.Popen(call, stdin=streams[0], stdout=streams[1], stderr=streams[2])
+            self._running.add(process)
+        finally:
+            self._is_beginning = False
+            if self._is_stopped:
+                self.stop(self._then)
+        return process
+
+    def stop(self, then: Callable[[], None] = do_nothing) -> None:
+        """Ends what runs; later calls begin nothing. `then` is called at the end; both wait for a process that just begins."""
         with self._lock:
-            self._is_stopped = True
+            self._is_stopped, self._then = True, then
+            if self._is_beginning:
+                return
             for process in self._running:
                 # It may have ended just now.
                 with suppress(ProcessLookupError):
                     process.kill()
+        then()
 
 
 @contextmanager
@@ -227,9 +246,9 @@ def run_program(name: str, words: Sequence[str], text: str, timeout: Optional[fl
     return ran
 
 
-def end_calls() -> None:
-    """Ends the programs that run for other threads, and lets no other one begin. Their calls raise Failed."""
-    CALLER.stop()
+def end_calls(then: Callable[[], None] = do_nothing) -> None:
+    """Ends the programs that run for other threads, and lets no other one begin. Their calls raise Failed. `then` is called at the end."""
+    CALLER.stop(then)
 
 
 def answered(name: str, words: Sequence[str], text: str, also: Sequence[int] = (), timeout: Optional[float] = None) -> Ran:

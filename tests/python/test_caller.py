@@ -56,6 +56,21 @@ class CallerTest(unittest.TestCase):
         self.assertEqual(caller.run(python("print(sys.stdin.read())"), b"one").body, b"one\n")
         self.assertEqual(caller.run(python("pass"), b"one").body, b"")
 
+    def test_a_stop_while_a_program_begins_ends_it(self):
+        caller, popen, ended = Caller(), programs.subprocess.Popen, []
+
+        def begin(*words, **streams):
+            # As the handler of a signal may, in the same thread, before the process is known.
+            process = popen(*words, **streams)
+            caller.stop(lambda: ended.append(process.pid))
+            self.assertEqual(ended, [])
+            return process
+
+        with mock.patch.object(programs.subprocess, "Popen", begin):
+            ran = caller.run(python(f"time.sleep({LONG})"), b"")
+        self.assertEqual((ran.status, ran.cut, len(ended)), (KILLED, STOPPED, 1))
+        self.assert_gone()
+
     def test_files_stand_in_where_there_are_none_in_memory(self):
         with mock.patch.object(programs.os, "memfd_create", create=True):
             del programs.os.memfd_create

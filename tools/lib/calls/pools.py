@@ -143,5 +143,4 @@ def end_with_parent():
 
 def end_worker(*_):
     """Ends the program that runs, and this process."""
-    end_calls()
-    os._exit(1)
+    end_calls(lambda: os._exit(1))
